@@ -1,0 +1,7 @@
+pub mod Halves
+pub mod Digits
+pub mod Lines
+pub mod Masks
+pub mod Members
+pub mod Numbers
+pub mod Plain
