@@ -4,7 +4,6 @@ ghost use mathlib.Core.Path.{_≡_};
 ghost use Rattle.word.specs.Digit.{isDigit};
 ghost use Rattle.word.specs.Ascii.{validAscii};
 ghost use Rattle.word.specs.Check.{fullCheck, plainCheck};
-
 use word::format_flags::Format;
 
 // The full check of a word: 0 where it is accepted, else the first line that fails, 1 to 14.

@@ -231,21 +231,20 @@ pub(crate) fn line(holds: bool, error: Error, rest: Error) -> Error
     if holds { rest } else { error }
 }
 
-// Lines 1 to 3 of the check.
+// Lines 1 to 3 of the check. Most words that are no format fail the first, so it is tested alone.
 pub fn radix_error_impl(format: Format) -> Error
     ensures { λ r. ⌜ numberOf r ≡ firstFailing (radixLines format) ⌝ }
 {
+    if !flags::is_valid_radix(flags::mantissa_radix(format)) {
+        return Error::InvalidMantissaRadix;
+    }
     line(
-        flags::is_valid_radix(flags::mantissa_radix(format)),
-        Error::InvalidMantissaRadix,
+        flags::is_valid_radix(flags::exponent_base(format)),
+        Error::InvalidExponentBase,
         line(
-            flags::is_valid_radix(flags::exponent_base(format)),
-            Error::InvalidExponentBase,
-            line(
-                flags::is_valid_radix(flags::exponent_radix(format)),
-                Error::InvalidExponentRadix,
-                Error::Success,
-            ),
+            flags::is_valid_radix(flags::exponent_radix(format)),
+            Error::InvalidExponentRadix,
+            Error::Success,
         ),
     )
 }

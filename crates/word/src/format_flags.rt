@@ -188,7 +188,8 @@ pub(crate) fn is_valid_optional_control(values: &[u8; 256], format: Format, valu
     requires { ⌜ now values ≡ digitTable ⌝ }
     ensures { λ r. ⌜ r ≡ validControl format value ⌝ }
 {
-    let radix = larger(mantissa_radix(format), exponent_radix(format));
+    let mantissa = mantissa_radix(format);
+    let radix = larger(mantissa, exponent_radix(format));
     is_valid_optional_control_radix(values, radix, value)
 }
 

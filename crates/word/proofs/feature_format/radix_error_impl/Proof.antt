@@ -1,4 +1,6 @@
 -- `word::feature_format::radix_error_impl` meets its contract, line by line. Assumes nothing.
+use mathlib.Core.Path.{sym}
+use borrow.Author.Tests.{not-true, not-false}
 use Rattle.word.specs.Check.{radixLines}
 use Rattle.word.proofs.Lines.{line-first}
 use borrow.Author.Needs.{needs}
@@ -10,6 +12,16 @@ mantissa-radix-requires c κs = search needs
 
 is-valid-radix-requires : tie.Need-is-valid-radix-requires
 is-valid-radix-requires c κs = search needs
+
+returns : tie.Need-returns
+unfolding radixLines
+returns c =
+    rw (
+      line-first 0,
+      sym (c .before .before .mantissa-radix .ensures),
+      sym (c .before .is-valid-radix .ensures),
+      not-true (c .before .is-valid-radix .result) (c .if1 .taken),
+    )
 
 exponent-base-requires : tie.Need-exponent-base-requires
 exponent-base-requires c κs = search needs
@@ -29,12 +41,19 @@ line-requires c κs = search needs
 line-requires-2 : tie.Need-line-requires-2
 line-requires-2 c κs = search needs
 
-line-requires-3 : tie.Need-line-requires-3
-line-requires-3 c κs = search needs
-
-returns : tie.Need-returns
+returns-2 : tie.Need-returns-2
 unfolding radixLines
-returns c = rw (line-first 0, line-first 1, line-first 2) (cc)
+returns-2 c =
+    let m = c .before .before .before .before .before .before in
+    rw (
+      line-first 0,
+      sym (m .before .before .mantissa-radix .ensures),
+      sym (m .before .is-valid-radix .ensures),
+      not-false (m .before .is-valid-radix .result) (m .if1 .left),
+      line-first 1,
+      line-first 2,
+    )
+    (cc)
 
 pub radix-error-impl-spec : {M : Type 1} → statement M
 radix-error-impl-spec =
@@ -42,11 +61,11 @@ radix-error-impl-spec =
     (tie.spec
     mantissa-radix-requires
     is-valid-radix-requires
+    returns
     exponent-base-requires
     is-valid-radix-requires-2
     exponent-radix-requires
     is-valid-radix-requires-3
     line-requires
     line-requires-2
-    line-requires-3
-    returns)
+    returns-2)
