@@ -1,7 +1,7 @@
 // The layout of a format word, its fields, and the validators of single fields. After lexical-util's format_flags.rs.
 ghost use mathlib.Core.Path.{_≡_};
 ghost use Prim.Native.Nat.{ℕ, _+_, _≤_, _<_, max};
-ghost use Rattle.word.specs.Bits.{bits};
+ghost use Rattle.word.specs.Bits.{bits, bit};
 ghost use Rattle.word.specs.Word.{field, flag, digitSeparator, basePrefix, baseSuffix, mantissaRadix, radixAt, exponentBase, exponentRadix};
 ghost use Rattle.word.specs.Digit.{digitTable};
 ghost use Rattle.word.specs.Check.{validRadix, validControlIn, validControl, validPunctuation, validExponentFlags};
@@ -86,6 +86,16 @@ pub(crate) fn bits_at(half: u64, shift: u32, width: u32) -> u64
 {
     let mask = (1 << width) - 1;
     (half >> shift) & mask
+}
+
+// Whether a bit is set, at any position; past the 64 bits none is.
+pub fn bit_at(bits: u64, position: u32) -> bool
+    ensures { λ r. ⌜ r ≡ bit bits position ⌝ }
+{
+    if position < 64 {
+        return bits_at(bits, position, 1) == 1;
+    }
+    false
 }
 
 // `width` bits of the lower half of the word.

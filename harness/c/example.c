@@ -1,0 +1,34 @@
+/* The library from C: the checks of four words, with the answers that they must give. */
+#include <stdio.h>
+
+#include "pawhetino.h"
+
+struct example {
+    const char *what;
+    uint64_t lo, hi;
+    uint32_t full, plain;
+};
+
+/* Mantissa radix 10, separator `_`. */
+#define DECIMAL_UNDERSCORE UINT64_C(0x00000A000000005F)
+
+static const struct example examples[] = {
+    {"separators inside the integer", UINT64_C(1) << 32, DECIMAL_UNDERSCORE, 0, 4},
+    {"consecutive separators, allowed nowhere", UINT64_C(1) << 41, DECIMAL_UNDERSCORE, 12, 4},
+    {"no bit set", 0, 0, 1, 1},
+    {"a word from before separators", 0xC, UINT64_C(0x00000A0000000000), 0, 0},
+};
+
+int main(void) {
+    int wrong = 0;
+    for (size_t i = 0; i < sizeof examples / sizeof *examples; i++) {
+        const struct example *e = &examples[i];
+        uint32_t full = pawhetino_format_error(e->lo, e->hi);
+        uint32_t plain = pawhetino_plain_format_error(e->lo, e->hi);
+        printf("%s: full check %u, plain check %u\n", e->what, (unsigned)full, (unsigned)plain);
+        wrong += full != e->full || plain != e->plain;
+    }
+    wrong += !pawhetino_char_is_digit_const('f', 16) || pawhetino_char_is_digit_const('g', 16);
+    wrong += !pawhetino_is_valid_ascii('~') || pawhetino_is_valid_ascii(0x7F);
+    return wrong != 0;
+}
