@@ -1,0 +1,72 @@
+// How many lines of each kind were compared, and how many of them differ.
+use crate::record::NO_RECORD;
+use crate::replay::DIGIT;
+use crate::replay::Verdict;
+use crate::replay::WORD;
+
+pub struct Count {
+    pub lines: u64,
+    pub differences: u64,
+}
+
+pub struct Tally {
+    pub words: Count,
+    pub digits: Count,
+    pub no_records: u64,
+}
+
+// One more, up to the largest number.
+pub fn one_more(n: u64) -> u64 {
+    if n < u64::MAX { n + 1 } else { n }
+}
+
+impl Count {
+    fn with(mut self, differs: bool) -> Self {
+        self.lines = one_more(self.lines);
+        if differs {
+            self.differences = one_more(self.differences);
+        }
+        self
+    }
+}
+
+impl Tally {
+    pub fn new() -> Self {
+        let none = Count {
+            lines: 0,
+            differences: 0,
+        };
+        Tally {
+            words: none,
+            digits: none,
+            no_records: 0,
+        }
+    }
+
+    // With one more line.
+    pub fn with(self, kind: u8, verdict: Verdict) -> Self {
+        match verdict {
+            Verdict::Same => self.with_kind(kind, false),
+            Verdict::Differs(_) => self.with_kind(kind, true),
+            Verdict::NoRecord => self.with_kind(NO_RECORD, true),
+        }
+    }
+
+    // A kind that has no count here is not passed over in silence.
+    fn with_kind(mut self, kind: u8, differs: bool) -> Self {
+        match kind {
+            WORD => {
+                let words = self.words.with(differs);
+                self.words = words;
+            }
+            DIGIT => {
+                let digits = self.digits.with(differs);
+                self.digits = digits;
+            }
+            _ => {
+                self.no_records = one_more(self.no_records);
+            }
+        }
+        self
+    }
+}
