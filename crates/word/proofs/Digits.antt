@@ -1,5 +1,6 @@
 -- The table of values holds each byte's own, so a test against the table is the test of the definition. Assumes nothing.
 use mathlib.Core.Path.{_≡_, _∙_, sym, ap, refl}
+use mathlib.Core.List.{List}
 use mathlib.Core.Option.{Option, some, none}
 use Prim.Native.Nat.{ℕ, zero, suc, _+_, _<_}
 use native.Mathlib.Nat.{add-zero, suc-add, add-suc, zero-add, le-of-suc-le-suc, not-suc-le-zero}
@@ -23,3 +24,7 @@ unfolding digitTable isDigit
 table-holds c radix h =
     ap (λ (x : ℕ). ltb x radix) (entry-at 0 256 c h ∙ ap (λ (x : ℕ). entry (digitValue x)) (zero-add c))
     ∙ entry-below (digitValue c) radix
+
+-- the same of a table that was lent
+pub lent-table : (table : List ℕ) (c radix : ℕ) → table ≡ digitTable → c < 256 → ltb (getD table c 0) radix ≡ isDigit c radix
+lent-table table c radix same h = ap (λ (t : List ℕ). ltb (getD t c 0) radix) same ∙ table-holds c radix h

@@ -12,6 +12,12 @@ pub line-first : (n : ℕ) (holds : Bool) (rest : List ℕ) → firstFailing (li
 line-first n true rest = refl
 line-first n false rest = refl
 
+-- a line that stands alone is the answer, whatever its number
+pub line-last : (n : ℕ) (holds : Bool) → firstFailing (line n holds ∷ []) ≡ line n holds
+line-last n true = refl
+line-last zero false = refl
+line-last (suc n) false = refl
+
 -- the lines of a second list matter where none of the first fails
 pub joined : (a b : List ℕ) → firstFailing (a ++ b) ≡ cond (eqb (firstFailing a) 0) (firstFailing b) (firstFailing a)
 joined [] b = refl
