@@ -1,0 +1,68 @@
+-- What a call may count on that is not refused, and what it answers where it is. Assumes nothing.
+use mathlib.Core.Path.{_≡_, _∙_, refl, sym}
+use mathlib.Core.Bool.{Bool, true, false, not}
+use mathlib.Core.List.{List, [], _∷_}
+use mathlib.Core.Option.{none}
+use Prim.Native.Nat.{ℕ, _≤_}
+use native.Mathlib.Omega.{arith}
+use lib.Dec.{eqb, leb}
+use lib.ListN.{length}
+use borrow.Author.Tests.{leb-true}
+use Rattle.reader.specs.declared.rule.Flags.{Flags}
+use Rattle.reader.specs.declared.state.Reader.{Reader}
+use Rattle.reader.specs.declared.state.State.{State}
+use Rattle.reader.specs.declared.state.Refusal.{Refusal}
+use Rattle.reader.specs.declared.state.Refusal.the-variants.{CursorPastEnd, CountsExceedCursor, SpecialReader, ConsecutiveInteger, ConsecutiveFraction, ConsecutiveExponent}
+use Rattle.reader.specs.State.{countSum}
+use Rattle.word.specs.Check.{line, firstFailing}
+use Rattle.reader.specs.Reading.{Reading, isConsecutiveAlone}
+use Rattle.reader.specs.Answer.{numberOf}
+use Rattle.reader.specs.Calls.{line16, line17, consecutiveNumber, placeRefusal, refusalWith, refused, peeked, peekOf}
+
+-- where the tests 16 and 17 hold and whatever comes after them, the cursor is within the buffer and the counts within the cursor
+module _ (s : List ℕ) (st : State) (rest : List ℕ) where
+  Clear : Type 0
+  Clear = firstFailing (line16 s st ∷ line17 st ∷ rest) ≡ 0
+
+  cursor-within : Clear → st .cursor ≤ length s
+  unfolding Clear
+  cursor-within clear = go (leb (st .cursor) (length s)) refl clear where
+    go : (t : Bool) → leb (st .cursor) (length s) ≡ t → Clear → st .cursor ≤ length s
+    go true t h = leb-true (st .cursor) (length s) t
+    go false t h = absurd (let z : 16 ≡ 0 = rw t at h in omega arith)
+
+  counts-within : Clear → countSum st ≤ st .cursor
+  unfolding Clear
+  counts-within clear = go (leb (st .cursor) (length s)) (leb (countSum st) (st .cursor)) refl refl clear where
+    go : (t u : Bool) → leb (st .cursor) (length s) ≡ t → leb (countSum st) (st .cursor) ≡ u → Clear → countSum st ≤ st .cursor
+    go t true p q h = leb-true (countSum st) (st .cursor) q
+    go false false p q h = absurd (let z : 16 ≡ 0 = rw p at h in omega arith)
+    go true false p q h = absurd (let z : 17 ≡ 0 = rw (p, q) at h in omega arith)
+
+pub place-within : (s : List ℕ) (st : State) → placeRefusal s st ≡ 0 → (st .cursor ≤ length s) × (countSum st ≤ st .cursor)
+unfolding placeRefusal Clear
+place-within s st clear = (cursor-within s st [] clear, counts-within s st [] clear)
+
+pub within : (f : Flags) (s : List ℕ) (st : State) (r : Reader) → refusalWith f s st r ≡ 0 → (st .cursor ≤ length s) × (countSum st ≤ st .cursor)
+unfolding refusalWith Clear
+within f s st r clear =
+    let rest = line (consecutiveNumber r) (not (isConsecutiveAlone f)) ∷ [] in
+    (cursor-within s st rest clear, counts-within s st rest clear)
+
+-- a refusal's number is not that of success
+pub refusal-tells : (e : Refusal) → eqb (numberOf e) 0 ≡ false
+refusal-tells CursorPastEnd = refl
+refusal-tells CountsExceedCursor = refl
+refusal-tells SpecialReader = refl
+refusal-tells ConsecutiveInteger = refl
+refusal-tells ConsecutiveFraction = refl
+refusal-tells ConsecutiveExponent = refl
+
+module _ (m : Reading) (s : List ℕ) (st : State) (r : Reader) where
+  pub peek-admitted : refusalWith (m .flags) s st r ≡ 0 → peekOf m s st r ≡ peeked m s st r
+  unfolding peekOf
+  peek-admitted clear = rw clear
+
+  pub peek-refused : (e : Refusal) → numberOf e ≡ refusalWith (m .flags) s st r → peekOf m s st r ≡ refused (numberOf e) st
+  unfolding peekOf
+  peek-refused e number = rw (sym number, refusal-tells e)

@@ -1,0 +1,53 @@
+-- The calls that begin with a look: what each answers for what was seen. Assumes nothing.
+use mathlib.Core.Path.{_≡_, _∙_, refl, sym, ap}
+use mathlib.Core.Bool.{Bool, true, false}
+use mathlib.Core.List.{List}
+use mathlib.Core.Option.{some, none}
+use Prim.Native.Nat.{ℕ, _+_}
+use Rattle.reader.specs.declared.state.Reader.{Reader}
+use Rattle.reader.specs.declared.state.State.{State}
+use Rattle.reader.specs.declared.state.Refusal.{Refusal}
+use Rattle.reader.specs.declared.skip.Looked.{Looked}
+use Rattle.reader.specs.declared.skip.Looked.the-variants.{Byte, End, Refused}
+use Rattle.reader.specs.State.{movedTo}
+use Rattle.reader.specs.Reading.{Reading}
+use Rattle.reader.specs.Answer.{Outcome, numberOf, lookOutcome}
+use Rattle.reader.specs.Calls.{refused, peekOf, takenFrom, nextOf, readIfOf}
+
+-- what was seen, in the case that the match found
+pub seen-as : (m : Reading) (s : List ℕ) (st : State) (r : Reader) (a b : Looked) → lookOutcome st a ≡ peekOf m s st r → a ≡ b → lookOutcome st b ≡ peekOf m s st r
+seen-as m s st r a b e same = sym (ap (lookOutcome st) same) ∙ e
+
+module _ (m : Reading) (s : List ℕ) (st : State) (r : Reader) where
+  module _ (b place passed : ℕ) (seen : lookOutcome st (Byte b place passed) ≡ peekOf m s st r) where
+    pub takes-byte : record { refusal = 0; byte = some b; taken = 1; passed = passed; state = takenFrom m r b (movedTo st place) } ≡ nextOf m s st r
+    unfolding nextOf
+    takes-byte = rw (sym seen)
+
+    pub reads-byte : (set : ℕ → Bool) → set b ≡ true
+        → record { refusal = 0; byte = some b; taken = 1; passed = passed; state = movedTo st (place + 1) } ≡ readIfOf m s st r set
+    unfolding readIfOf movedTo
+    reads-byte set holds = rw (sym seen, holds)
+
+    pub declines-byte : (set : ℕ → Bool) → set b ≡ false
+        → record { refusal = 0; byte = none; taken = 0; passed = passed; state = movedTo st place } ≡ readIfOf m s st r set
+    unfolding readIfOf
+    declines-byte set fails = rw (sym seen, fails)
+
+  module _ (place passed : ℕ) (seen : lookOutcome st (End place passed) ≡ peekOf m s st r) where
+    pub takes-end : lookOutcome st (End place passed) ≡ nextOf m s st r
+    unfolding nextOf
+    takes-end = rw (sym seen)
+
+    pub declines-end : (set : ℕ → Bool) → lookOutcome st (End place passed) ≡ readIfOf m s st r set
+    unfolding readIfOf
+    declines-end set = rw (sym seen)
+
+  module _ (e : Refusal) (seen : lookOutcome st (Refused e) ≡ peekOf m s st r) where
+    pub takes-refused : refused (numberOf e) st ≡ nextOf m s st r
+    unfolding nextOf
+    takes-refused = rw (sym seen)
+
+    pub reads-refused : (set : ℕ → Bool) → refused (numberOf e) st ≡ readIfOf m s st r set
+    unfolding readIfOf
+    reads-refused set = rw (sym seen)

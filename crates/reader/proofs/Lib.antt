@@ -1,0 +1,12 @@
+pub mod Tests
+pub mod Looking
+pub mod Admission
+pub mod Calls
+pub mod Plain
+pub mod Sets
+pub mod Places
+pub mod Landings
+pub mod RuleTable
+pub mod RuleLaws
+pub mod Takes
+pub mod Examples

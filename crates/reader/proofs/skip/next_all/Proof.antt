@@ -1,0 +1,25 @@
+-- `reader::skip::next_all` meets its contract: the table is that of the definition, and the word's syntax is read once. Assumes nothing.
+use mathlib.Core.Path.{_∙_, refl, ap}
+use Rattle.word.specs.Digit.{digitTable, digitValue}
+use Rattle.reader.specs.declared.passing.Syntax.{Syntax}
+use Rattle.reader.specs.Reading.{readingWith}
+use Rattle.reader.specs.Calls.{nextAllOf}
+use borrow.Author.Needs.{needs}
+use Rattle.reader.proofs.skip.next_all.Statement.{statement}
+use Rattle.reader.proofs.skip.next_all.Tie as tie
+
+syntax-of-requires : tie.Need-syntax-of-requires
+syntax-of-requires c κs = search needs
+
+next-all-in-requires : tie.Need-next-all-in-requires
+unfolding digitTable digitValue
+next-all-in-requires c κs = refl
+
+returns : tie.Need-returns
+returns c =
+    let x = c .before .before in
+    let a = x .before .before .args in
+    c .next-all-in .ensures ∙ ap (λ (y : Syntax). nextAllOf (readingWith y) (a .s .now) (a .state) (a .reader)) (x .syntax-of .ensures)
+
+pub next-all-spec : {M : Type 1} → statement M
+next-all-spec = tie.close (tie.spec syntax-of-requires next-all-in-requires returns)

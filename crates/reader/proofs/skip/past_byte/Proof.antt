@@ -1,0 +1,61 @@
+-- `reader::skip::past_byte` meets its contract: only a digit of a reader with a flag is counted. Assumes nothing.
+use mathlib.Core.Path.{_∙_, sym}
+use native.Mathlib.Omega.{arith}
+use Rattle.word.proofs.Digits.{lent-table}
+use Rattle.reader.specs.State.{movedTo}
+use Rattle.reader.specs.Reading.{readingWith}
+use borrow.Author.Needs.{needs}
+use Rattle.reader.proofs.skip.past_byte.Statement.{statement}
+use Rattle.reader.proofs.skip.past_byte.Tie as tie
+
+add-moved : tie.Need-add-moved
+add-moved c = search needs
+
+moved-requires : tie.Need-moved-requires
+moved-requires c κs = search needs
+
+char-is-digit-in-requires : tie.Need-char-is-digit-in-requires
+char-is-digit-in-requires c κs = search needs
+
+counted-requires : tie.Need-counted-requires
+unfolding movedTo
+counted-requires c κs =
+    let m = c .before .before .before .before .before .before in
+    rw (m .moved .ensures) (omega (arith, m .before .before .pre .1, m .before .before .pre .2))
+
+returns : tie.Need-returns
+unfolding readingWith
+returns c =
+    let d = c .before .before in
+    let m = d .before .before .before .before .before in
+    let a = m .before .before .args in
+    rw (
+      sym (lent-table (a .values .now) (a .b) (a .syntax .radix) (m .before .before .pre .0) (search needs)),
+      sym (d .char-is-digit-in .ensures),
+      c .before .if1 .taken,
+    )
+    (c .counted .ensures ∙ rw (m .moved .ensures))
+
+returns-2 : tie.Need-returns-2
+unfolding readingWith
+returns-2 c =
+    let d = c .before in
+    let m = d .before .before .before .before .before in
+    let a = m .before .before .args in
+    rw (
+      sym (lent-table (a .values .now) (a .b) (a .syntax .radix) (m .before .before .pre .0) (search needs)),
+      sym (d .char-is-digit-in .ensures),
+      c .if1 .left,
+    )
+    (m .moved .ensures)
+
+pub past-byte-spec : {M : Type 1} → statement M
+past-byte-spec =
+    tie.close
+    (tie.spec
+    add-moved
+    moved-requires
+    char-is-digit-in-requires
+    counted-requires
+    returns
+    returns-2)

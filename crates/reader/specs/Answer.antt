@@ -1,0 +1,97 @@
+-- What the cases of the calls' answers say in document 01's terms: its number of a refusal, the byte, and how many bytes were taken
+-- and separators passed. The contracts use these. Assumes nothing.
+use Prim.Native.Nat.{ℕ, _<_, _≤_}
+use mathlib.Core.List.{List}
+use lib.ListN.{length}
+use mathlib.Core.Option.{Option, some, none}
+use Rattle.reader.specs.declared.state.State.{State}
+use Rattle.reader.specs.declared.state.Refusal.{Refusal}
+use Rattle.reader.specs.declared.state.Refusal.the-variants.{CursorPastEnd, CountsExceedCursor, SpecialReader, ConsecutiveInteger, ConsecutiveFraction, ConsecutiveExponent}
+use Rattle.reader.specs.declared.state.Admission.{Admission}
+use Rattle.reader.specs.declared.state.Admission.the-variants as admission
+use Rattle.reader.specs.declared.skip.Looked.{Looked}
+use Rattle.reader.specs.declared.skip.Looked.the-variants as looked
+use Rattle.reader.specs.declared.skip.Seen.{Seen}
+use Rattle.reader.specs.declared.skip.Seen.the-variants as seen
+use Rattle.reader.specs.declared.skip.Answer.{Answer}
+use Rattle.reader.specs.declared.skip.Count.{Count}
+use Rattle.reader.specs.declared.skip.Count.the-variants as count
+use Rattle.reader.specs.declared.iterator.Read.{Read}
+use Rattle.reader.specs.declared.iterator.Read.the-variants as read
+use Rattle.reader.specs.declared.iterator.ReadAnswer.{ReadAnswer}
+use Rattle.reader.specs.State.{movedTo, countSum}
+
+-- "What the office log shows"
+abbrev pub numberOf : Refusal → ℕ
+numberOf CursorPastEnd = 16
+numberOf CountsExceedCursor = 17
+numberOf SpecialReader = 18
+numberOf ConsecutiveInteger = 12
+numberOf ConsecutiveFraction = 13
+numberOf ConsecutiveExponent = 14
+
+-- the outcome of a call: the refusal's number or 0, the byte answered if any, taken, passed, and the state returned
+pub record Outcome : Type 0 where
+  pub refusal : ℕ
+  pub byte : Option ℕ
+  pub taken : ℕ
+  pub passed : ℕ
+  pub state : State
+
+abbrev pub admissionNumber : Admission → ℕ
+admissionNumber admission.Admitted = 0
+admissionNumber (admission.Refused e) = numberOf e
+
+-- what a look saw: a byte or the end, with the place that the cursor moves to and how many separators it passes; as the outcome
+-- of a peek from a state
+abbrev pub lookOutcome : State → Looked → Outcome
+lookOutcome st (looked.Byte b place passed) =
+    record { refusal = 0; byte = some b; taken = 0; passed = passed; state = movedTo st place }
+lookOutcome st (looked.End place passed) =
+    record { refusal = 0; byte = none; taken = 0; passed = passed; state = movedTo st place }
+lookOutcome st (looked.Refused e) = record { refusal = numberOf e; byte = none; taken = 0; passed = 0; state = st }
+
+-- a byte that was seen lies in the buffer, and the counts are within its place
+abbrev pub LookFits : List ℕ → State → Looked → Type 0
+LookFits s st (looked.Byte b place passed) = (place < length s) × (countSum st ≤ place)
+LookFits s st (looked.End place passed) = Unit {0}
+LookFits s st (looked.Refused e) = Unit {0}
+
+-- a peek's and a take's answer: a byte, the end, or a refusal
+abbrev pub seenNumber : Seen → ℕ
+seenNumber (seen.Byte b) = 0
+seenNumber seen.End = 0
+seenNumber (seen.Refused e) = numberOf e
+
+abbrev pub seenByte : Seen → Option ℕ
+seenByte (seen.Byte b) = some b
+seenByte seen.End = none
+seenByte (seen.Refused e) = none
+
+abbrev pub outcomeOf : Answer → Outcome
+outcomeOf a =
+    record { refusal = seenNumber (a .told .seen); byte = seenByte (a .told .seen); taken = a .told .taken; passed = a .told .passed; state = a .state }
+
+-- a conditional read's answer: the byte taken, declined, or a refusal
+abbrev pub readNumber : Read → ℕ
+readNumber (read.Taken b) = 0
+readNumber read.Declined = 0
+readNumber (read.Refused e) = numberOf e
+
+abbrev pub readByte : Read → Option ℕ
+readByte (read.Taken b) = some b
+readByte read.Declined = none
+readByte (read.Refused e) = none
+
+abbrev pub readOutcomeOf : ReadAnswer → Outcome
+readOutcomeOf a =
+    record { refusal = readNumber (a .told .read); byte = readByte (a .told .read); taken = a .told .taken; passed = a .told .passed; state = a .state }
+
+-- what `current_count` answers: the count shown, or a refusal
+pub record CountOutcome : Type 0 where
+  pub refusal : ℕ
+  pub count : Option ℕ
+
+abbrev pub countOutcomeOf : Count → CountOutcome
+countOutcomeOf (count.Shown n) = record { refusal = 0; count = some n }
+countOutcomeOf (count.Refused e) = record { refusal = numberOf e; count = none }

@@ -1,0 +1,34 @@
+-- The state of a cursor (document 01, "Passing"): the word, the cursor and the three digit counts. Assumes nothing.
+use Prim.Native.Nat.{ℕ, suc, _+_}
+use Rattle.word.specs.declared.format_flags.Format.{Format}
+use Rattle.reader.specs.declared.state.Reader.{Reader}
+use Rattle.reader.specs.declared.state.Reader.the-variants.{Integer, Fraction, Exponent, Special}
+use Rattle.reader.specs.declared.state.State.{State}
+
+-- "Fresh": cursor and three counts 0
+abbrev pub freshOf : Format → State
+freshOf f = record { format = f; cursor = 0; integer = record { 0 = 0 }; fraction = record { 0 = 0 }; exponent = record { 0 = 0 } }
+
+-- the reader's own count; the special reader counts nothing
+unfoldable pub countOf : State → Reader → ℕ
+countOf st Integer = st .integer .0
+countOf st Fraction = st .fraction .0
+countOf st Exponent = st .exponent .0
+countOf st Special = 0
+
+abbrev pub countSum : State → ℕ
+countSum st = st .integer .0 + st .fraction .0 + st .exponent .0
+
+-- the same state with its cursor at `place`
+unfoldable pub movedTo : State → ℕ → State
+movedTo st place = record { format = st .format; cursor = place; integer = st .integer; fraction = st .fraction; exponent = st .exponent }
+
+-- the same state with the reader's own count raised by one
+unfoldable pub countedBy : State → Reader → State
+countedBy st Integer =
+    record { format = st .format; cursor = st .cursor; integer = record { 0 = st .integer .0 + 1 }; fraction = st .fraction; exponent = st .exponent }
+countedBy st Fraction =
+    record { format = st .format; cursor = st .cursor; integer = st .integer; fraction = record { 0 = st .fraction .0 + 1 }; exponent = st .exponent }
+countedBy st Exponent =
+    record { format = st .format; cursor = st .cursor; integer = st .integer; fraction = st .fraction; exponent = record { 0 = st .exponent .0 + 1 } }
+countedBy st Special = st

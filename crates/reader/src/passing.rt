@@ -1,0 +1,225 @@
+// Passing: what a format word says to a reader, and how far the reader's cursor moves over separators at a place.
+ghost use mathlib.Core.Path.{_≡_};
+ghost use mathlib.Core.Bool.{cond};
+ghost use mathlib.Core.Option.{some, none};
+ghost use Prim.Native.Nat.{_+_, _-_, _%_, _^_, _≤_, _<_};
+ghost use lib.ListN.{length, drop};
+ghost use Rattle.word.specs.Digit.{digitTable};
+ghost use Rattle.reader.specs.Rule.{ruleOf};
+ghost use Rattle.reader.specs.Place.{byteAt, before, firstOther, separatorRun};
+ghost use Rattle.reader.specs.Reading.{flagsOf, syntaxOf, readingWith, neighbourOf, previous, following, passedAt};
+use crate::rule;
+use crate::rule::Flags;
+use crate::rule::Neighbour;
+use crate::state::Reader;
+use word::digit::char_is_digit_in;
+use word::format_flags::Format;
+
+// What a format word says to one reader.
+pub struct Syntax {
+    pub separator: u8,
+    pub radix: u32,
+    pub flags: Flags,
+}
+
+// The flags of a reader. The special reader has one flag, which stands for all four.
+fn flags_of(format: Format, reader: Reader) -> Flags
+    ensures { λ r. ⌜ r ≡ flagsOf format reader ⌝ }
+{
+    match reader {
+        Reader::Integer => Flags {
+            internal: format.integer_internal_digit_separator(),
+            leading: format.integer_leading_digit_separator(),
+            trailing: format.integer_trailing_digit_separator(),
+            consecutive: format.integer_consecutive_digit_separator(),
+        },
+        Reader::Fraction => Flags {
+            internal: format.fraction_internal_digit_separator(),
+            leading: format.fraction_leading_digit_separator(),
+            trailing: format.fraction_trailing_digit_separator(),
+            consecutive: format.fraction_consecutive_digit_separator(),
+        },
+        Reader::Exponent => Flags {
+            internal: format.exponent_internal_digit_separator(),
+            leading: format.exponent_leading_digit_separator(),
+            trailing: format.exponent_trailing_digit_separator(),
+            consecutive: format.exponent_consecutive_digit_separator(),
+        },
+        Reader::Special => {
+            let any = format.special_digit_separator();
+            Flags {
+                internal: any,
+                leading: any,
+                trailing: any,
+                consecutive: any,
+            }
+        }
+    }
+}
+
+pub(crate) fn syntax_of(format: Format, reader: Reader) -> Syntax
+    ensures { λ r. ⌜ r ≡ syntaxOf format reader ⌝ }
+{
+    let flags = flags_of(format, reader);
+    Syntax {
+        separator: format.digit_separator(),
+        radix: format.mantissa_radix(),
+        flags,
+    }
+}
+
+// Beyond either end there is no byte.
+fn absent() -> Neighbour
+    ensures { λ r. ⌜ ((syntax : Syntax) → r ≡ neighbourOf (readingWith syntax) none) ⌝ }
+{
+    Neighbour {
+        exists: false,
+        digit: false,
+        separator: false,
+    }
+}
+
+// What a rule asks of a byte.
+fn neighbour(values: &[u8; 256], syntax: Syntax, b: u8) -> Neighbour
+    requires { ⌜ now values ≡ digitTable ⌝ }
+    ensures { λ r. ⌜ r ≡ neighbourOf (readingWith syntax) (some b) ⌝ }
+{
+    Neighbour {
+        exists: true,
+        digit: char_is_digit_in(values, b, syntax.radix),
+        separator: (syntax.separator != 0) & (b == syntax.separator),
+    }
+}
+
+// The same of the byte at an index, which may lie past every buffer.
+fn neighbour_at(values: &[u8; 256], s: &[u8], syntax: Syntax, i: usize) -> Neighbour
+    requires { ⌜ now values ≡ digitTable ⌝ }
+    ensures { λ r. ⌜ r ≡ neighbourOf (readingWith syntax) (byteAt (now (s .entry)) i) ⌝ }
+{
+    if i < s.len() {
+        let b = s[i];
+        return neighbour(values, syntax, b);
+    }
+    absent()
+}
+
+// The index before a place. Before place 0 it wraps, lies past every buffer and so finds no byte.
+fn index_before(at: usize) -> usize
+    ensures { λ r. ⌜ r ≡ (at + (2 ^ 64 - 1)) % 2 ^ 64 ⌝ }
+{
+    std::num::wrapping_sub_usize(at, 1)
+}
+
+// The index of the nearest byte before a place that is no separator.
+fn previous_other(s: &[u8], separator: u8, at: usize) -> usize
+    requires { ⌜ (0 < separator) × (at ≤ length (now s)) ⌝ }
+    ensures { λ r. ⌜ byteAt (now (s .entry)) r ≡ firstOther separator (before (now (s .entry)) at) ⌝ }
+{
+    let mut i = index_before(at);
+    while i < s.len() {
+        if s[i] != separator {
+            return i;
+        }
+        i = index_before(i);
+    }
+    i
+}
+
+// The first index from a place on whose byte is no separator, or the end.
+fn run_end(s: &[u8], separator: u8, at: usize) -> usize
+    requires { ⌜ (0 < separator) × (at ≤ length (now s)) ⌝ }
+    ensures { λ r. ⌜ (r ≡ at + separatorRun separator (drop at (now (s .entry)))) × (r ≤ length (now (s .entry))) ⌝ }
+{
+    let mut i = at;
+    while i < s.len() {
+        if s[i] != separator {
+            return i;
+        }
+        i += 1;
+    }
+    i
+}
+
+// The neighbour before a place: the byte just before, or with the consecutive flag the nearest one that is no separator. Where it is
+// not wanted no byte is read.
+fn previous_neighbour(
+    values: &[u8; 256],
+    s: &[u8],
+    syntax: Syntax,
+    wanted: bool,
+    at: usize,
+) -> Neighbour
+    requires { ⌜ (now values ≡ digitTable) × ((0 < syntax .separator) × (at ≤ length (now s))) ⌝ }
+    ensures { λ r. ⌜ r ≡ cond wanted (previous (readingWith syntax) (now (s .entry)) at) (neighbourOf (readingWith syntax) none) ⌝ }
+{
+    if !wanted {
+        return absent();
+    }
+    if syntax.flags.consecutive {
+        let other = previous_other(s, syntax.separator, at);
+        return neighbour_at(values, s, syntax, other);
+    }
+    let i = index_before(at);
+    neighbour_at(values, s, syntax, i)
+}
+
+// The neighbour after a place, likewise.
+fn next_neighbour(
+    values: &[u8; 256],
+    s: &[u8],
+    syntax: Syntax,
+    wanted: bool,
+    at: usize,
+) -> Neighbour
+    requires { ⌜ (now values ≡ digitTable) × ((0 < syntax .separator) × (at < length (now s))) ⌝ }
+    ensures { λ r. ⌜ r ≡ cond wanted (following (readingWith syntax) (now (s .entry)) at) (neighbourOf (readingWith syntax) none) ⌝ }
+{
+    if !wanted {
+        return absent();
+    }
+    let i = at + 1;
+    if syntax.flags.consecutive {
+        let other = run_end(s, syntax.separator, i);
+        return neighbour_at(values, s, syntax, other);
+    }
+    neighbour_at(values, s, syntax, i)
+}
+
+// Whether the rule lets the separator at a place be passed. Only the neighbours that it names are looked at.
+fn passes(values: &[u8; 256], s: &[u8], syntax: Syntax, first: bool, at: usize) -> bool
+    requires { ⌜ (now values ≡ digitTable) × ((0 < syntax .separator) × (at < length (now s))) ⌝ }
+    ensures { λ r. ⌜ r ≡ ruleOf (syntax .flags) first (previous (readingWith syntax) (now (s .entry)) at) (following (readingWith syntax) (now (s .entry)) at) ⌝ }
+{
+    let named = rule::names_of(syntax.flags, first);
+    let previous = previous_neighbour(values, s, syntax, named.previous, at);
+    let next = next_neighbour(values, s, syntax, named.next, at);
+    rule::rule(syntax.flags, first, previous, next)
+}
+
+// Where a cursor lands that passes what it may at a place. Most bytes are no separator, so that compare stands first; a separator 0,
+// which stands for none, is told apart after it.
+pub(crate) fn landing(values: &[u8; 256], s: &[u8], syntax: Syntax, first: bool, at: usize) -> usize
+    requires { ⌜ (now values ≡ digitTable) × (at ≤ length (now s)) ⌝ }
+    ensures { λ r. ⌜ (r ≡ at + passedAt (readingWith syntax) (now (s .entry)) first at) × (r ≤ length (now (s .entry))) ⌝ }
+{
+    if s.len() <= at {
+        return at;
+    }
+    let separator = syntax.separator;
+    let b = s[at];
+    if b != separator {
+        return at;
+    }
+    if separator == 0 {
+        return at;
+    }
+    if !passes(values, s, syntax, first, at) {
+        return at;
+    }
+    let next = at + 1;
+    let run = syntax.flags.consecutive;
+    if run {
+        return run_end(s, separator, next);
+    }
+    next
+}

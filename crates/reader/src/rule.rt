@@ -1,0 +1,158 @@
+// The rule table: where a reader may pass a separator, by its flags and what is known of the separator's neighbours. One table in
+// place of the fourteen macros of lexical-util's skip.rs.
+ghost use mathlib.Core.Path.{_≡_};
+ghost use mathlib.Core.Bool.{cond};
+ghost use Prim.Native.Nat.{_≤_, _<_};
+ghost use Rattle.reader.specs.Rule.{ruleOf, namesOf};
+ghost use Rattle.reader.specs.RuleData.{cellOf, codeOf, IsEntry};
+use word::format_flags::bit_at;
+
+// Where a reader may pass separators.
+pub struct Flags {
+    pub internal: bool,
+    pub leading: bool,
+    pub trailing: bool,
+    pub consecutive: bool,
+}
+
+// What a rule asks of a separator's neighbour.
+pub struct Neighbour {
+    pub exists: bool,
+    pub digit: bool,
+    pub separator: bool,
+}
+
+// Which neighbours a rule looks at.
+pub struct Named {
+    pub previous: bool,
+    pub next: bool,
+}
+
+// The table as data: an entry for each cell (cell_of), in which bit 8 * p + n is the rule's answer for neighbours with the codes p
+// and n (code_of).
+const RULES: [u64; 32] = [
+    0x0000000000000000, // none, first
+    0x0000000000000000, // none, later
+    0xCCCC0000CCCC0000, // I, first
+    0xCCCCCCCCCCCCCCCC, // I, later
+    0x0000000000000F0F, // L, first
+    0x0000000000000000, // L, later
+    0xCCCC0000CCCCFFFF, // IL, first
+    0xCCCCCCCCCCCCCCCC, // IL, later
+    0x0000000003030303, // T, first
+    0x0303030303030303, // T, later
+    0x0F0F03030F0F0303, // IT, first
+    0x0F0F0F0F0F0F0F0F, // IT, later
+    0x0000000003030F0F, // LT, first
+    0x0303030303030303, // LT, later
+    0x000000000F0F0F0F, // ILT, first
+    0x0F0F0F0F0F0F0F0F, // ILT, later
+    0x0000000000000000, // C, first
+    0x0000000000000000, // C, later
+    0xCCCC0000CCCC0000, // IC, first
+    0xCCCCCCCCCCCCCCCC, // IC, later
+    0x0000FFFF0000FFFF, // LC, first
+    0x0000000000000000, // LC, later
+    0xCCCCFFFFCCCCFFFF, // ILC, first
+    0xDDDDDDDDDDDDDDDD, // ILC, later
+    0x3333333333333333, // TC, first
+    0x3333333333333333, // TC, later
+    0x3333FF333333FF33, // ITC, first
+    0xFFFFFFFFFFFFFFFF, // ITC, later
+    0x3333FFFF3333FFFF, // LTC, first
+    0x3333333333333333, // LTC, later
+    0xFFFFFFFFFFFFFFFF, // ILTC, first
+    0xFFFFFFFFFFFFFFFF, // ILTC, later
+];
+
+// The cells whose rule looks at the byte before the separator, and those that look at the byte after it.
+const NAMES_PREVIOUS: u64 = 0x14545554;
+
+const NAMES_NEXT: u64 = 0x37CCFFDC;
+
+// What a bool adds to a number: its weight, or nothing.
+fn weighed(b: bool, weight: u32) -> u32
+    ensures { λ r. ⌜ (r ≡ cond b weight 0) × (r ≤ weight) ⌝ }
+{
+    if b { weight } else { 0 }
+}
+
+// The number of a neighbour, by which an entry of the table is read.
+fn code_of(p: Neighbour) -> u32
+    ensures { λ r. ⌜ (r ≡ codeOf p) × (r < 8) ⌝ }
+{
+    weighed(p.exists, 1) + weighed(p.digit, 2) + weighed(p.separator, 4)
+}
+
+// The number of the table's cell for a reader with these flags: first while its count is 0, later otherwise.
+fn cell_of(flags: Flags, first: bool) -> u32
+    ensures { λ r. ⌜ (r ≡ cellOf flags first) × (r < 32) ⌝ }
+{
+    weighed(!first, 1)
+        + weighed(flags.internal, 2)
+        + weighed(flags.leading, 4)
+        + weighed(flags.trailing, 8)
+        + weighed(flags.consecutive, 16)
+}
+
+// The entry of a cell. A `match`, and not an index, is compiled to a table that is read where it lies.
+fn rule_word(cell: u32) -> u64
+    requires { ⌜ cell < 32 ⌝ }
+    ensures { λ r. ⌜ IsEntry cell r ⌝ }
+{
+    match cell {
+        0 => RULES[0],
+        1 => RULES[1],
+        2 => RULES[2],
+        3 => RULES[3],
+        4 => RULES[4],
+        5 => RULES[5],
+        6 => RULES[6],
+        7 => RULES[7],
+        8 => RULES[8],
+        9 => RULES[9],
+        10 => RULES[10],
+        11 => RULES[11],
+        12 => RULES[12],
+        13 => RULES[13],
+        14 => RULES[14],
+        15 => RULES[15],
+        16 => RULES[16],
+        17 => RULES[17],
+        18 => RULES[18],
+        19 => RULES[19],
+        20 => RULES[20],
+        21 => RULES[21],
+        22 => RULES[22],
+        23 => RULES[23],
+        24 => RULES[24],
+        25 => RULES[25],
+        26 => RULES[26],
+        27 => RULES[27],
+        28 => RULES[28],
+        29 => RULES[29],
+        30 => RULES[30],
+        _ => RULES[31],
+    }
+}
+
+// Whether a separator between these neighbours may be passed.
+pub(crate) fn rule(flags: Flags, first: bool, previous: Neighbour, next: Neighbour) -> bool
+    ensures { λ r. ⌜ r ≡ ruleOf flags first previous next ⌝ }
+{
+    let cell = cell_of(flags, first);
+    let position = 8 * code_of(previous) + code_of(next);
+    let word = rule_word(cell);
+    bit_at(word, position)
+}
+
+// Which neighbours the rule of a cell looks at.
+pub(crate) fn names_of(flags: Flags, first: bool) -> Named
+    ensures { λ r. ⌜ r ≡ namesOf flags first ⌝ }
+{
+    let cell = cell_of(flags, first);
+    Named {
+        previous: bit_at(NAMES_PREVIOUS, cell),
+        next: bit_at(NAMES_NEXT, cell),
+    }
+}

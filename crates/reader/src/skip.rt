@@ -1,0 +1,261 @@
+// The cursor that passes digit separators: peek and take. After lexical-util's skip.rs.
+ghost use mathlib.Core.Path.{_≡_};
+ghost use mathlib.Core.Bool.{cond};
+ghost use Prim.Native.Nat.{_+_, _≤_, _<_, _^_};
+ghost use lib.Dec.{eqb};
+ghost use lib.ListN.{length};
+ghost use Rattle.word.specs.Digit.{digitTable, isDigit};
+ghost use Rattle.word.specs.Word.{digitSeparator, mantissaRadix};
+ghost use Rattle.reader.specs.Place.{isSeparator};
+ghost use Rattle.reader.specs.Reading.{syntaxOf, readingWith, readingOf, hasAnyFlag};
+ghost use Rattle.reader.specs.State.{countSum};
+ghost use Rattle.reader.specs.Answer.{lookOutcome, LookFits, outcomeOf, countOutcomeOf};
+ghost use Rattle.reader.specs.Calls.{peekOf, nextOf, nextAllOf, takenFrom, shownCount, currentCountOf, peeked};
+use crate::passing::Syntax;
+use crate::passing::landing;
+use crate::passing::syntax_of;
+use crate::rule::Flags;
+use crate::state::Admission;
+use crate::state::Reader;
+use crate::state::Refusal;
+use crate::state::State;
+use crate::state::admit;
+use crate::state::admit_place;
+use crate::state::counted;
+use crate::state::moved;
+use word::digit::VALUES;
+use word::digit::char_is_digit_in;
+use word::format_flags::Format;
+
+// What a peek or a take sees.
+pub enum Seen {
+    Byte(u8),
+    End,
+    Refused(Refusal),
+}
+
+// An answer without the state: what was seen, how many bytes were taken, how many separators passed.
+pub struct Told {
+    pub seen: Seen,
+    pub taken: usize,
+    pub passed: usize,
+}
+
+pub struct Answer {
+    pub told: Told,
+    pub state: State,
+}
+
+pub enum Count {
+    Shown(usize),
+    Refused(Refusal),
+}
+
+// What a look at the cursor finds: a byte or the end, with the place that the cursor moves to and how many separators it passes.
+pub enum Looked {
+    Byte(u8, usize, usize),
+    End(usize, usize),
+    Refused(Refusal),
+}
+
+pub fn is_digit(format: Format, c: u8) -> bool
+    ensures { λ r. ⌜ r ≡ isDigit c (mantissaRadix format) ⌝ }
+{
+    word::digit::char_is_digit_const(c, format.mantissa_radix())
+}
+
+pub fn is_digit_separator(format: Format, c: u8) -> bool
+    ensures { λ r. ⌜ r ≡ isSeparator (digitSeparator format) c ⌝ }
+{
+    let separator = format.digit_separator();
+    (separator != 0) & (c == separator)
+}
+
+// Passes what the reader may pass at the cursor, and looks at the byte then under it. All calls begin so.
+pub(crate) fn look(
+    values: &[u8; 256],
+    s: &[u8],
+    state: State,
+    syntax: Syntax,
+    reader: Reader,
+) -> Looked
+    requires { ⌜ now values ≡ digitTable ⌝ }
+    ensures outcome { λ r. ⌜ lookOutcome state r ≡ peekOf (readingWith syntax) (now (s .entry)) state reader ⌝ }
+    ensures fits { λ r. ⌜ LookFits (now (s .entry)) state r ⌝ }
+{
+    let flags = syntax.flags;
+    let admitted = admit(s, state, flags, reader);
+    match admitted {
+        Admission::Admitted => look_past(values, s, state, syntax, reader),
+        Admission::Refused(refusal) => Looked::Refused(refusal),
+    }
+}
+
+// The same of a state that is not refused.
+fn look_past(values: &[u8; 256], s: &[u8], state: State, syntax: Syntax, reader: Reader) -> Looked
+    requires { ⌜ (now values ≡ digitTable) × (state .cursor ≤ length (now s)) × (countSum state ≤ state .cursor) ⌝ }
+    ensures outcome { λ r. ⌜ lookOutcome state r ≡ peeked (readingWith syntax) (now (s .entry)) state reader ⌝ }
+    ensures fits { λ r. ⌜ LookFits (now (s .entry)) state r ⌝ }
+{
+    let at = state.cursor;
+    let place = landing(values, s, syntax, state.count(reader) == 0, at);
+    let passed = place - at;
+    if place < s.len() {
+        let b = s[place];
+        return Looked::Byte(b, place, passed);
+    }
+    Looked::End(place, passed)
+}
+
+fn answered(seen: Seen, taken: usize, passed: usize, state: State) -> Answer
+    ensures { λ r. ⌜ r ≡ record { told = record { seen = seen; taken = taken; passed = passed }; state = state } ⌝ }
+{
+    let told = Told {
+        seen,
+        taken,
+        passed,
+    };
+    Answer { told, state }
+}
+
+// A peek with the table lent and what the word says at hand.
+fn peek_in(values: &[u8; 256], s: &[u8], state: State, syntax: Syntax, reader: Reader) -> Answer
+    requires { ⌜ now values ≡ digitTable ⌝ }
+    ensures { λ r. ⌜ outcomeOf r ≡ peekOf (readingWith syntax) (now (s .entry)) state reader ⌝ }
+{
+    let looked = look(values, s, state, syntax, reader);
+    match looked {
+        Looked::Byte(b, place, passed) => answered(Seen::Byte(b), 0, passed, moved(state, place)),
+        Looked::End(place, passed) => answered(Seen::End, 0, passed, moved(state, place)),
+        Looked::Refused(refusal) => answered(Seen::Refused(refusal), 0, 0, state),
+    }
+}
+
+// The byte under the cursor, after passing what the reader may pass.
+pub fn peek(s: &[u8], state: State, reader: Reader) -> Answer
+    ensures { λ r. ⌜ outcomeOf r ≡ peekOf (readingOf (state .format) reader) (now (s .entry)) state reader ⌝ }
+{
+    let values = VALUES;
+    let syntax = syntax_of(state.format, reader);
+    peek_in(&values, s, state, syntax, reader)
+}
+
+// The state behind a byte that the reader takes: a reader with any flag counts a digit.
+fn past_byte(values: &[u8; 256], state: State, syntax: Syntax, reader: Reader, b: u8) -> State
+    requires { ⌜ (now values ≡ digitTable) × (state .cursor + 1 < 2 ^ 64) × (countSum state ≤ state .cursor) ⌝ }
+    ensures { λ r. ⌜ r ≡ takenFrom (readingWith syntax) reader b state ⌝ }
+{
+    let next = moved(state, state.cursor + 1);
+    let flags = syntax.flags;
+    if (flags.internal | flags.leading | flags.trailing | flags.consecutive)
+        & char_is_digit_in(values, b, syntax.radix)
+    {
+        return counted(next, reader);
+    }
+    next
+}
+
+// A take with the table lent and what the word says at hand, for calls that take many bytes.
+fn next_in(values: &[u8; 256], s: &[u8], state: State, syntax: Syntax, reader: Reader) -> Answer
+    requires { ⌜ now values ≡ digitTable ⌝ }
+    ensures { λ r. ⌜ outcomeOf r ≡ nextOf (readingWith syntax) (now (s .entry)) state reader ⌝ }
+{
+    let looked = look(values, s, state, syntax, reader);
+    match looked {
+        Looked::Byte(b, place, passed) => {
+            let next = past_byte(values, moved(state, place), syntax, reader, b);
+            answered(Seen::Byte(b), 1, passed, next)
+        }
+        Looked::End(place, passed) => answered(Seen::End, 0, passed, moved(state, place)),
+        Looked::Refused(refusal) => answered(Seen::Refused(refusal), 0, 0, state),
+    }
+}
+
+// Takes the byte under the cursor, after passing what the reader may pass.
+pub fn next(s: &[u8], state: State, reader: Reader) -> Answer
+    ensures { λ r. ⌜ outcomeOf r ≡ nextOf (readingOf (state .format) reader) (now (s .entry)) state reader ⌝ }
+{
+    let values = VALUES;
+    let syntax = syntax_of(state.format, reader);
+    next_in(&values, s, state, syntax, reader)
+}
+
+// Takes until there is no byte, with the table lent and what the word says at hand.
+fn next_all_in(values: &[u8; 256], s: &[u8], state: State, syntax: Syntax, reader: Reader) -> Answer
+    requires { ⌜ now values ≡ digitTable ⌝ }
+    ensures { λ r. ⌜ outcomeOf r ≡ nextAllOf (readingWith syntax) (now (s .entry)) state reader ⌝ }
+{
+    let mut here = state;
+    let mut taken: usize = 0;
+    let mut passed: usize = 0;
+    loop {
+        let took = next_in(values, s, here, syntax, reader);
+        let told = took.told;
+        let seen = told.seen;
+        match seen {
+            Seen::Byte(_) => {
+                taken += 1;
+                passed += told.passed;
+                here = took.state;
+            }
+            Seen::End => {
+                return answered(seen, taken, passed + told.passed, took.state);
+            }
+            Seen::Refused(_) => {
+                return answered(seen, taken, passed + told.passed, took.state);
+            }
+        }
+    }
+}
+
+// Takes to the end of the buffer in one call.
+pub fn next_all(s: &[u8], state: State, reader: Reader) -> Answer
+    ensures { λ r. ⌜ outcomeOf r ≡ nextAllOf (readingOf (state .format) reader) (now (s .entry)) state reader ⌝ }
+{
+    let values = VALUES;
+    let syntax = syntax_of(state.format, reader);
+    next_all_in(&values, s, state, syntax, reader)
+}
+
+// The count that the crate shows where a reader has no flag.
+fn unflagged_count(state: State, separator: u8) -> usize
+    requires { ⌜ countSum state < 2 ^ 64 ⌝ }
+    ensures { λ r. ⌜ r ≡ cond (eqb separator 0) (state .cursor) (countSum state) ⌝ }
+{
+    if separator == 0 {
+        return state.cursor;
+    }
+    state.integer.0 + state.fraction.0 + state.exponent.0
+}
+
+// What the crate's `current_count` shows.
+fn shown_count(state: State, syntax: Syntax, reader: Reader) -> usize
+    requires { ⌜ countSum state < 2 ^ 64 ⌝ }
+    ensures { λ r. ⌜ r ≡ shownCount (readingWith syntax) state reader ⌝ }
+{
+    let flags = syntax.flags;
+    if flags.internal | flags.leading | flags.trailing | flags.consecutive {
+        return state.count(reader);
+    }
+    match reader {
+        Reader::Special => 0,
+        Reader::Integer => unflagged_count(state, syntax.separator),
+        Reader::Fraction => unflagged_count(state, syntax.separator),
+        Reader::Exponent => unflagged_count(state, syntax.separator),
+    }
+}
+
+// How many digits the reader has counted, as the crate shows it.
+pub fn current_count(s: &[u8], state: State, reader: Reader) -> Count
+    ensures { λ r. ⌜ countOutcomeOf r ≡ currentCountOf (readingOf (state .format) reader) (now (s .entry)) state reader ⌝ }
+{
+    let admitted = admit_place(s, state);
+    match admitted {
+        Admission::Admitted => Count::Shown(shown_count(
+            state,
+            syntax_of(state.format, reader),
+            reader,
+        )),
+        Admission::Refused(refusal) => Count::Refused(refusal),
+    }
+}
