@@ -15,9 +15,11 @@ returns : tie.Need-returns
 unfolding validControlIn
 returns c =
     let a = c .before .before .args in
-    rw (c .before .char-is-digit-in .ensures,
-        lent-table (a .values .now) (a .value) (a .radix) (c .before .before .pre) (search needs),
-        c .is-valid-ascii .ensures)
+    rw (
+      c .before .char-is-digit-in .ensures,
+      lent-table (a .values .now) (a .value) (a .radix) (c .before .before .pre) (search needs),
+      c .is-valid-ascii .ensures,
+    )
 
 pub is-valid-optional-control-radix-spec : {M : Type 1} → statement M
 is-valid-optional-control-radix-spec =
