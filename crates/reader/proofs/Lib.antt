@@ -10,3 +10,4 @@ pub mod RuleTable
 pub mod RuleLaws
 pub mod Takes
 pub mod Examples
+pub mod Outcomes
