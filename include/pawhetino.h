@@ -1,12 +1,19 @@
 /* Pawhetino: the functions of target/staticlib/libexport.a for C and C++.
  *
- * Every function takes numbers only, asks nothing of its caller and is proved to answer as document 01 defines for all
- * arguments. A format word of 128 bits comes as two halves: bit 0 is the lowest of lo, bit 64 the lowest of hi.
+ * Every function takes numbers, bytes and places for numbers, and is proved to answer as document 01 defines for all arguments.
+ * A format word of 128 bits comes as two halves: bit 0 is the lowest of lo, bit 64 the lowest of hi.
+ *
+ * A reader call takes the buffer s of len bytes, which may be empty but not null, and places that do not overlap each other or s.
+ * reader is 0 for the integer reader, 1 fraction, 2 exponent, 3 special. The state comes and goes in *cursor, *integer, *fraction
+ * and *exponent. Returned is 0, or 16, 17 or 12 to 14 where the call is refused, or 19 for another reader. *has_byte is 1 with the
+ * byte in *byte, or 0 with *byte left as it was; *taken and *passed count bytes taken and separators passed. A refused call leaves
+ * the state and *byte, and writes 0 to the other three.
  */
 #ifndef PAWHETINO_H
 #define PAWHETINO_H
 
 #include <stdbool.h>
+#include <stddef.h>
 #include <stdint.h>
 
 #ifdef __cplusplus
@@ -24,6 +31,59 @@ bool pawhetino_char_is_digit_const(uint8_t c, uint32_t radix);
 
 /* Whether a byte is valid ASCII: hex 09 to 0D and 20 to 7E. */
 bool pawhetino_is_valid_ascii(uint8_t c);
+
+/* Whether a byte is a digit of a word's mantissa radix. */
+bool pawhetino_is_digit(uint64_t lo, uint64_t hi, uint8_t c);
+
+/* Whether a byte is a word's digit separator. */
+bool pawhetino_is_digit_separator(uint64_t lo, uint64_t hi, uint8_t c);
+
+/* The byte under the cursor, after passing what the reader may pass. */
+uint32_t pawhetino_peek(
+    const uint8_t *s, size_t len, uint64_t lo, uint64_t hi, uint8_t reader,
+    size_t *cursor, size_t *integer, size_t *fraction, size_t *exponent,
+    uint8_t *has_byte, uint8_t *byte, size_t *taken, size_t *passed);
+
+/* The same, and the cursor moves past the byte; a reader with any flag counts a digit. */
+uint32_t pawhetino_next(
+    const uint8_t *s, size_t len, uint64_t lo, uint64_t hi, uint8_t reader,
+    size_t *cursor, size_t *integer, size_t *fraction, size_t *exponent,
+    uint8_t *has_byte, uint8_t *byte, size_t *taken, size_t *passed);
+
+/* Takes until there is no byte. *taken and *passed are the sums of all the takes. */
+uint32_t pawhetino_next_all(
+    const uint8_t *s, size_t len, uint64_t lo, uint64_t hi, uint8_t reader,
+    size_t *cursor, size_t *integer, size_t *fraction, size_t *exponent,
+    uint8_t *has_byte, uint8_t *byte, size_t *taken, size_t *passed);
+
+/* Takes the byte, uncounted, where it is in a set of 256 bits, set0 the lowest 64. Where it is not, the passing stays. */
+uint32_t pawhetino_read_if(
+    const uint8_t *s, size_t len, uint64_t lo, uint64_t hi, uint8_t reader,
+    size_t *cursor, size_t *integer, size_t *fraction, size_t *exponent,
+    uint8_t *has_byte, uint8_t *byte, size_t *taken, size_t *passed,
+    uint64_t set0, uint64_t set1, uint64_t set2, uint64_t set3);
+
+/* The same for one byte. */
+uint32_t pawhetino_read_if_value_cased(
+    const uint8_t *s, size_t len, uint64_t lo, uint64_t hi, uint8_t reader,
+    size_t *cursor, size_t *integer, size_t *fraction, size_t *exponent,
+    uint8_t *has_byte, uint8_t *byte, size_t *taken, size_t *passed,
+    uint8_t value);
+
+/* How many digits the reader has counted, as lexical-util shows it. Where the call is refused *count stays as it was. */
+uint32_t pawhetino_current_count(
+    const uint8_t *s, size_t len, uint64_t lo, uint64_t hi, uint8_t reader,
+    size_t cursor, size_t integer, size_t fraction, size_t exponent, size_t *count);
+
+/* The byte under a plain reader's cursor. It passes nothing, and its state is the cursor alone. */
+uint32_t pawhetino_plain_peek(
+    const uint8_t *s, size_t len, uint8_t reader,
+    size_t *cursor, uint8_t *has_byte, uint8_t *byte, size_t *taken, size_t *passed);
+
+/* The same, and the cursor moves past the byte. */
+uint32_t pawhetino_plain_next(
+    const uint8_t *s, size_t len, uint8_t reader,
+    size_t *cursor, uint8_t *has_byte, uint8_t *byte, size_t *taken, size_t *passed);
 
 #ifdef __cplusplus
 }

@@ -13,8 +13,10 @@ mod group;
 mod library;
 mod named;
 mod oracle;
+mod readers;
 mod record;
 mod rng;
+mod timing;
 mod word;
 mod words;
 
@@ -43,6 +45,7 @@ fn test(seed: u64) -> ExitCode {
     named::run(&mut report);
     digits::run(&mut report);
     checks::run(&mut report, seed);
+    readers::run(&mut report, seed);
     report.finish()
 }
 

@@ -47,6 +47,10 @@ impl Word {
         Self((hi as u128) << 64 | lo as u128)
     }
 
+    pub const fn bits(self) -> u128 {
+        self.0
+    }
+
     pub const fn lo(self) -> u64 {
         self.0 as u64
     }
@@ -76,6 +80,17 @@ impl Word {
     pub const fn with_bit_flipped(self, bit: u32) -> Self {
         Self(self.0 ^ 1 << bit)
     }
+
+    /// The separator flags of a reader as a set, see `reader_flags`. The
+    /// special reader has all four or none.
+    pub const fn reader_set(self, reader: u8) -> u32 {
+        if reader == 3 {
+            let allowed = self.lo() & SPECIAL_SEPARATOR != 0;
+            return if allowed { 0b1111 } else { 0 };
+        }
+        let flags = (self.lo() >> (32 + reader)) as u32;
+        (flags & 1) | (flags >> 2 & 2) | (flags >> 4 & 4) | (flags >> 6 & 8)
+    }
 }
 
 impl fmt::Display for Word {
@@ -92,9 +107,7 @@ pub fn flag_bits() -> impl Iterator<Item = u32> + Clone {
 /// The four separator flags of a counted reader (0 integer, 1 fraction,
 /// 2 exponent). In `set`, bit 0 is internal, 1 leading, 2 trailing and
 /// 3 consecutive; in the word each of these has the three readers side by side.
-pub fn reader_flags(reader: u32, set: u32) -> u64 {
-    (0..4)
-        .filter(|kind| set >> kind & 1 == 1)
-        .map(|kind| 1 << (32 + 3 * kind + reader))
-        .sum()
+pub const fn reader_flags(reader: u8, set: u32) -> u64 {
+    let flags = (set & 1) | (set & 2) << 2 | (set & 4) << 4 | (set & 8) << 6;
+    (flags as u64) << (32 + reader)
 }

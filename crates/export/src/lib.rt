@@ -1,10 +1,20 @@
-// What Rust and C link: the checks of a format word, on numbers only. The word of 128 bits comes as two halves of 64, and an
-// answer is a number of document 01's table. No function asks anything of its caller.
+// What Rust and C link: the checks of a format word and the reader calls, on numbers only. The word of 128 bits comes as two halves
+// of 64, a state as its numbers and a reader as a byte. An answer is a number of document 01's table, or 19 where a byte names no
+// reader. No function asks anything of its caller.
 ghost use mathlib.Core.Path.{_≡_};
 ghost use Rattle.word.specs.Digit.{isDigit};
 ghost use Rattle.word.specs.Ascii.{validAscii};
 ghost use Rattle.word.specs.Check.{fullCheck, plainCheck};
+ghost use Rattle.word.specs.Word.{digitSeparator, mantissaRadix};
+ghost use Rattle.reader.specs.Place.{isSeparator};
+ghost use Rattle.export.specs.declared.reply.Call.{Call};
+ghost use Rattle.export.specs.declared.reply.PlainCall.{PlainCall};
+ghost use Rattle.export.specs.Reply.{stateOf, calledBy, plainCalledBy, written, plainWritten, held, plainHeld, countedFor, countWritten};
+use crate::reply::Call;
+use crate::reply::PlainCall;
 use word::format_flags::Format;
+
+pub mod reply;
 
 // The full check of a word: 0 where it is accepted, else the first line that fails, 1 to 14.
 #[no_mangle]
@@ -38,4 +48,273 @@ pub extern "C" fn pawhetino_is_valid_ascii(c: u8) -> bool
     ensures { λ r. ⌜ r ≡ validAscii c ⌝ }
 {
     word::ascii::is_valid_ascii(c)
+}
+
+// Whether a byte is a digit of a word's mantissa radix.
+#[no_mangle]
+pub extern "C" fn pawhetino_is_digit(lo: u64, hi: u64, c: u8) -> bool
+    ensures { λ r. ⌜ r ≡ isDigit c (mantissaRadix (record { lo = lo; hi = hi })) ⌝ }
+{
+    let format = Format { lo, hi };
+    reader::skip::is_digit(format, c)
+}
+
+// Whether a byte is a word's digit separator.
+#[no_mangle]
+pub extern "C" fn pawhetino_is_digit_separator(lo: u64, hi: u64, c: u8) -> bool
+    ensures { λ r. ⌜ r ≡ isSeparator (digitSeparator (record { lo = lo; hi = hi })) c ⌝ }
+{
+    let format = Format { lo, hi };
+    reader::skip::is_digit_separator(format, c)
+}
+
+// How many digits a reader has counted, as lexical-util shows it. A refusal leaves the count as it was.
+#[no_mangle]
+pub extern "C" fn pawhetino_current_count(
+    s: &[u8],
+    lo: u64,
+    hi: u64,
+    reader: u8,
+    cursor: usize,
+    integer: usize,
+    fraction: usize,
+    exponent: usize,
+    count: &mut usize,
+) -> u32
+    ensures { λ r. ⌜ record { number = r; count = now (count .exit) } ≡ countWritten (now (count .entry)) (countedFor reader (now (s .entry)) (stateOf lo hi cursor integer fraction exponent)) ⌝ }
+{
+    let state = reply::state_of(lo, hi, cursor, integer, fraction, exponent);
+    let reply = reply::current_count(s, state, reader, *count);
+    *count = reply.count;
+    reply.number
+}
+
+// The byte under the reader's cursor, after passing what the reader may pass.
+#[no_mangle]
+pub extern "C" fn pawhetino_peek(
+    s: &[u8],
+    lo: u64,
+    hi: u64,
+    reader: u8,
+    cursor: &mut usize,
+    integer: &mut usize,
+    fraction: &mut usize,
+    exponent: &mut usize,
+    found: &mut u8,
+    byte: &mut u8,
+    taken: &mut usize,
+    passed: &mut usize,
+) -> u32
+    ensures { λ r. ⌜ held r (now (cursor .exit)) (now (integer .exit)) (now (fraction .exit)) (now (exponent .exit)) (now (found .exit)) (now (byte .exit)) (now (taken .exit)) (now (passed .exit)) ≡ written (now (byte .entry)) (calledBy reader Call.Peek (now (s .entry)) (stateOf lo hi (now (cursor .entry)) (now (integer .entry)) (now (fraction .entry)) (now (exponent .entry)))) ⌝ }
+{
+    reply::run(
+        Call::Peek,
+        s,
+        lo,
+        hi,
+        reader,
+        cursor,
+        integer,
+        fraction,
+        exponent,
+        found,
+        byte,
+        taken,
+        passed,
+    )
+}
+
+// The same, and the cursor moves past the byte; a digit is counted.
+#[no_mangle]
+pub extern "C" fn pawhetino_next(
+    s: &[u8],
+    lo: u64,
+    hi: u64,
+    reader: u8,
+    cursor: &mut usize,
+    integer: &mut usize,
+    fraction: &mut usize,
+    exponent: &mut usize,
+    found: &mut u8,
+    byte: &mut u8,
+    taken: &mut usize,
+    passed: &mut usize,
+) -> u32
+    ensures { λ r. ⌜ held r (now (cursor .exit)) (now (integer .exit)) (now (fraction .exit)) (now (exponent .exit)) (now (found .exit)) (now (byte .exit)) (now (taken .exit)) (now (passed .exit)) ≡ written (now (byte .entry)) (calledBy reader Call.Next (now (s .entry)) (stateOf lo hi (now (cursor .entry)) (now (integer .entry)) (now (fraction .entry)) (now (exponent .entry)))) ⌝ }
+{
+    reply::run(
+        Call::Next,
+        s,
+        lo,
+        hi,
+        reader,
+        cursor,
+        integer,
+        fraction,
+        exponent,
+        found,
+        byte,
+        taken,
+        passed,
+    )
+}
+
+// Takes until there is no byte. Taken and passed are the sums of all the takes.
+#[no_mangle]
+pub extern "C" fn pawhetino_next_all(
+    s: &[u8],
+    lo: u64,
+    hi: u64,
+    reader: u8,
+    cursor: &mut usize,
+    integer: &mut usize,
+    fraction: &mut usize,
+    exponent: &mut usize,
+    found: &mut u8,
+    byte: &mut u8,
+    taken: &mut usize,
+    passed: &mut usize,
+) -> u32
+    ensures { λ r. ⌜ held r (now (cursor .exit)) (now (integer .exit)) (now (fraction .exit)) (now (exponent .exit)) (now (found .exit)) (now (byte .exit)) (now (taken .exit)) (now (passed .exit)) ≡ written (now (byte .entry)) (calledBy reader Call.NextAll (now (s .entry)) (stateOf lo hi (now (cursor .entry)) (now (integer .entry)) (now (fraction .entry)) (now (exponent .entry)))) ⌝ }
+{
+    reply::run(
+        Call::NextAll,
+        s,
+        lo,
+        hi,
+        reader,
+        cursor,
+        integer,
+        fraction,
+        exponent,
+        found,
+        byte,
+        taken,
+        passed,
+    )
+}
+
+// Takes the byte, uncounted, where it is in the set of 256 bits, set0 the lowest 64. Where it is not, the passing stays.
+#[no_mangle]
+pub extern "C" fn pawhetino_read_if(
+    s: &[u8],
+    lo: u64,
+    hi: u64,
+    reader: u8,
+    cursor: &mut usize,
+    integer: &mut usize,
+    fraction: &mut usize,
+    exponent: &mut usize,
+    found: &mut u8,
+    byte: &mut u8,
+    taken: &mut usize,
+    passed: &mut usize,
+    set0: u64,
+    set1: u64,
+    set2: u64,
+    set3: u64,
+) -> u32
+    ensures { λ r. ⌜ held r (now (cursor .exit)) (now (integer .exit)) (now (fraction .exit)) (now (exponent .exit)) (now (found .exit)) (now (byte .exit)) (now (taken .exit)) (now (passed .exit)) ≡ written (now (byte .entry)) (calledBy reader (Call.ReadIf set0 set1 set2 set3) (now (s .entry)) (stateOf lo hi (now (cursor .entry)) (now (integer .entry)) (now (fraction .entry)) (now (exponent .entry)))) ⌝ }
+{
+    reply::run(
+        Call::ReadIf(set0, set1, set2, set3),
+        s,
+        lo,
+        hi,
+        reader,
+        cursor,
+        integer,
+        fraction,
+        exponent,
+        found,
+        byte,
+        taken,
+        passed,
+    )
+}
+
+// The same for one byte.
+#[no_mangle]
+pub extern "C" fn pawhetino_read_if_value_cased(
+    s: &[u8],
+    lo: u64,
+    hi: u64,
+    reader: u8,
+    cursor: &mut usize,
+    integer: &mut usize,
+    fraction: &mut usize,
+    exponent: &mut usize,
+    found: &mut u8,
+    byte: &mut u8,
+    taken: &mut usize,
+    passed: &mut usize,
+    value: u8,
+) -> u32
+    ensures { λ r. ⌜ held r (now (cursor .exit)) (now (integer .exit)) (now (fraction .exit)) (now (exponent .exit)) (now (found .exit)) (now (byte .exit)) (now (taken .exit)) (now (passed .exit)) ≡ written (now (byte .entry)) (calledBy reader (Call.ReadIfValueCased value) (now (s .entry)) (stateOf lo hi (now (cursor .entry)) (now (integer .entry)) (now (fraction .entry)) (now (exponent .entry)))) ⌝ }
+{
+    reply::run(
+        Call::ReadIfValueCased(value),
+        s,
+        lo,
+        hi,
+        reader,
+        cursor,
+        integer,
+        fraction,
+        exponent,
+        found,
+        byte,
+        taken,
+        passed,
+    )
+}
+
+// The byte under a plain reader's cursor. It passes nothing, and its state is the cursor alone.
+#[no_mangle]
+pub extern "C" fn pawhetino_plain_peek(
+    s: &[u8],
+    reader: u8,
+    cursor: &mut usize,
+    found: &mut u8,
+    byte: &mut u8,
+    taken: &mut usize,
+    passed: &mut usize,
+) -> u32
+    ensures { λ r. ⌜ plainHeld r (now (cursor .exit)) (now (found .exit)) (now (byte .exit)) (now (taken .exit)) (now (passed .exit)) ≡ plainWritten (now (byte .entry)) (plainCalledBy reader PlainCall.Peek (now (s .entry)) (now (cursor .entry))) ⌝ }
+{
+    reply::plain_run(
+        PlainCall::Peek,
+        s,
+        reader,
+        cursor,
+        found,
+        byte,
+        taken,
+        passed,
+    )
+}
+
+// The same, and the cursor moves past the byte.
+#[no_mangle]
+pub extern "C" fn pawhetino_plain_next(
+    s: &[u8],
+    reader: u8,
+    cursor: &mut usize,
+    found: &mut u8,
+    byte: &mut u8,
+    taken: &mut usize,
+    passed: &mut usize,
+) -> u32
+    ensures { λ r. ⌜ plainHeld r (now (cursor .exit)) (now (found .exit)) (now (byte .exit)) (now (taken .exit)) (now (passed .exit)) ≡ plainWritten (now (byte .entry)) (plainCalledBy reader PlainCall.Next (now (s .entry)) (now (cursor .entry))) ⌝ }
+{
+    reply::plain_run(
+        PlainCall::Next,
+        s,
+        reader,
+        cursor,
+        found,
+        byte,
+        taken,
+        passed,
+    )
 }

@@ -1,5 +1,6 @@
 // Replays answers of the Rust crate that were recorded as lines of text: reads them from standard input, asks our
 // library the same, and says on standard output what differs and how much was compared.
+mod call;
 mod lines;
 mod record;
 mod replay;

@@ -4,6 +4,8 @@ ghost use mathlib.Core.Bool.{cond};
 ghost use Rattle.word.specs.Check.{fullCheck, plainCheck};
 ghost use Rattle.word.specs.Digit.{isDigit};
 ghost use Rattle.vectors.specs.Replay.{verdict, orElse, verdictOf, wordVerdict, digitVerdict};
+use crate::call::Outcome;
+use crate::call::repeat;
 use crate::record::Record;
 use word::format_flags::Format;
 
@@ -17,11 +19,17 @@ pub const DIGIT: u8 = b'D';
 
 const DIGIT_SHAPE: u64 = 0x02_08_01;
 
+// `R what lo hi bytes answer`: a call of a reader, in packed numbers.
+pub const CALL: u8 = b'R';
+
+const CALL_SHAPE: u64 = 0x10_10_10_10_10;
+
 // Which answer of a record it is.
 pub enum Answer {
     Full,
     Plain,
     Digit,
+    Call,
 }
 
 pub struct Difference {
@@ -38,7 +46,31 @@ pub enum Verdict {
 }
 
 // Compares what a record says with what our library says.
-pub fn compare(parsed: Record) -> Verdict
+pub fn compare_any(parsed: Record) -> Verdict {
+    if parsed.kind == CALL {
+        return compare_call(parsed);
+    }
+    compare(parsed)
+}
+
+fn compare_call(parsed: Record) -> Verdict {
+    if parsed.shape != CALL_SHAPE {
+        return Verdict::NoRecord;
+    }
+    let values = parsed.values;
+    let format = Format {
+        lo: values[1],
+        hi: values[2],
+    };
+    let outcome = repeat(values[0], format, values[3]);
+    match outcome {
+        Outcome::Packed(answered) => settle(Answer::Call, values[4], answered),
+        Outcome::NoCall => Verdict::NoRecord,
+    }
+}
+
+// The same of words and digits.
+fn compare(parsed: Record) -> Verdict
     ensures { λ r. ⌜ r ≡ verdictOf parsed ⌝ }
 {
     let kind = parsed.kind;

@@ -64,6 +64,7 @@ impl Text {
             Answer::Full => self.then(b"full"),
             Answer::Plain => self.then(b"plain"),
             Answer::Digit => self.then(b"digit"),
+            Answer::Call => self.then(b"call"),
         }
     }
 
@@ -111,6 +112,7 @@ pub fn sum_up(tally: Tally) {
     Text::new()
         .count(tally.words, b" words, ")
         .count(tally.digits, b" digits, ")
+        .count(tally.calls, b" reader calls, ")
         .number(tally.no_records)
         .then(b" lines that are no record\n")
         .write();

@@ -1,5 +1,6 @@
 // How many lines of each kind were compared, and how many of them differ.
 use crate::record::NO_RECORD;
+use crate::replay::CALL;
 use crate::replay::DIGIT;
 use crate::replay::Verdict;
 use crate::replay::WORD;
@@ -12,6 +13,7 @@ pub struct Count {
 pub struct Tally {
     pub words: Count,
     pub digits: Count,
+    pub calls: Count,
     pub no_records: u64,
 }
 
@@ -39,6 +41,7 @@ impl Tally {
         Tally {
             words: none,
             digits: none,
+            calls: none,
             no_records: 0,
         }
     }
@@ -62,6 +65,10 @@ impl Tally {
             DIGIT => {
                 let digits = self.digits.with(differs);
                 self.digits = digits;
+            }
+            CALL => {
+                let calls = self.calls.with(differs);
+                self.calls = calls;
             }
             _ => {
                 self.no_records = one_more(self.no_records);

@@ -1,0 +1,46 @@
+-- `export::reply::current_count` meets its contract. Assumes nothing.
+use mathlib.Core.Path.{_∙_, sym, ap}
+use Rattle.export.specs.Reply.{namedReader, countedFor}
+use borrow.Author.Needs.{needs}
+use Rattle.export.proofs.reply.current_count.Statement.{statement}
+use Rattle.export.proofs.reply.current_count.Tie as tie
+
+reader-of-requires : tie.Need-reader-of-requires
+reader-of-requires c κs = search needs
+
+enum-known-by : tie.Need-enum-known-by
+enum-known-by c = search needs
+
+current-count-requires : tie.Need-current-count-requires
+current-count-requires c κs = search needs
+
+count-reply-requires : tie.Need-count-reply-requires
+count-reply-requires c κs = search needs
+
+enum-told : tie.Need-enum-told
+enum-told c = search needs
+
+returns : tie.Need-returns
+unfolding countedFor
+returns c =
+    let b = c .before .before .before in
+    let e = sym (b .before .before .reader-of .ensures) ∙ ap namedReader (b .by .given .1) in
+    rw (e, ← c .before .current-count .ensures) (c .count-reply .ensures)
+
+returns-2 : tie.Need-returns-2
+unfolding countedFor
+returns-2 c =
+    let e = sym (c .before .before .reader-of .ensures) ∙ ap namedReader (c .enum-told .given .1) in
+    rw e
+
+pub current-count-spec : {M : Type 1} → statement M
+current-count-spec =
+    tie.close
+    (tie.spec
+    reader-of-requires
+    enum-known-by
+    current-count-requires
+    count-reply-requires
+    enum-told
+    returns
+    returns-2)

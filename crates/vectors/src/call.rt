@@ -1,0 +1,124 @@
+// A recorded call of a reader, made anew: the record's fields are packed numbers, eight bytes each, the first byte highest.
+use reader::iterator::Read;
+use reader::iterator::ReadAnswer;
+use reader::iterator::read_if_value_cased;
+use reader::skip::Answer;
+use reader::skip::Seen;
+use reader::skip::next;
+use reader::skip::next_all;
+use reader::skip::peek;
+use reader::state::ExponentCount;
+use reader::state::FractionCount;
+use reader::state::IntegerCount;
+use reader::state::Reader;
+use reader::state::State;
+use word::format_flags::Format;
+
+// The most bytes of a recorded buffer.
+const MOST: usize = 8;
+
+// What a call answered, packed as the record has it: whether there was a byte (2 where the call was refused), the byte (the
+// refusal's number), the cursor, what was passed, the three counts, and 0.
+pub enum Outcome {
+    Packed(u64),
+    NoCall,
+}
+
+// Byte `place` of a packed number, counted from the highest.
+fn byte_of(packed: u64, place: u32) -> u8 {
+    let shift = (7 - place % 8) * 8;
+    ((packed >> shift) % 256) as u8
+}
+
+fn buffer_of(bytes: u64) -> [u8; MOST] {
+    [
+        byte_of(bytes, 7),
+        byte_of(bytes, 6),
+        byte_of(bytes, 5),
+        byte_of(bytes, 4),
+        byte_of(bytes, 3),
+        byte_of(bytes, 2),
+        byte_of(bytes, 1),
+        byte_of(bytes, 0),
+    ]
+}
+
+fn reader_of(number: u8) -> Reader {
+    match number {
+        0 => Reader::Integer,
+        1 => Reader::Fraction,
+        2 => Reader::Exponent,
+        _ => Reader::Special,
+    }
+}
+
+fn state_of(what: u64, format: Format) -> State {
+    State {
+        format,
+        cursor: byte_of(what, 3) as usize,
+        integer: IntegerCount(byte_of(what, 4) as usize),
+        fraction: FractionCount(byte_of(what, 5) as usize),
+        exponent: ExponentCount(byte_of(what, 6) as usize),
+    }
+}
+
+fn pushed(packed: u64, next: usize) -> u64 {
+    packed << 8 | (next % 256) as u64
+}
+
+// The bytes of an answer behind its first two.
+fn packed_state(first: u64, state: State, passed: usize) -> u64 {
+    let moved = pushed(pushed(first, state.cursor), passed);
+    let counts = pushed(pushed(moved, state.integer.0), state.fraction.0);
+    pushed(pushed(counts, state.exponent.0), 0)
+}
+
+fn pack(a: Answer) -> u64 {
+    let told = a.told;
+    let seen = told.seen;
+    let first = match seen {
+        Seen::Byte(b) => 0x100 + b as u64,
+        Seen::End => 0,
+        Seen::Refused(refusal) => 0x200 + refusal.number() as u64,
+    };
+    packed_state(first, a.state, told.passed)
+}
+
+fn pack_read(a: ReadAnswer) -> u64 {
+    let told = a.told;
+    let read = told.read;
+    let first = match read {
+        Read::Taken(b) => 0x100 + b as u64,
+        Read::Declined => 0,
+        Read::Refused(refusal) => 0x200 + refusal.number() as u64,
+    };
+    packed_state(first, a.state, told.passed)
+}
+
+// 0 peek, 1 take, 2 read of one value, 3 takes to the end.
+fn made(kind: u8, s: &[u8], state: State, who: Reader, value: u8) -> Outcome {
+    match kind {
+        0 => Outcome::Packed(pack(peek(s, state, who))),
+        1 => Outcome::Packed(pack(next(s, state, who))),
+        2 => Outcome::Packed(pack_read(read_if_value_cased(s, state, who, value))),
+        3 => Outcome::Packed(pack(next_all(s, state, who))),
+        _ => Outcome::NoCall,
+    }
+}
+
+// The call that `what` describes: its kind, the reader, the buffer's length, the cursor, the three counts, and a value.
+pub fn repeat(what: u64, format: Format, bytes: u64) -> Outcome {
+    let buffer = buffer_of(bytes);
+    let all: &[u8] = &buffer;
+    let length = byte_of(what, 2) as usize;
+    if length > all.len() {
+        return Outcome::NoCall;
+    }
+    made(
+        byte_of(what, 0),
+        &all[0..length],
+        state_of(what, format),
+        reader_of(byte_of(what, 1)),
+        byte_of(what, 7),
+    )
+}

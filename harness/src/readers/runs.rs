@@ -1,0 +1,55 @@
+//! Long runs of separators, between all kinds of neighbours.
+
+use super::call::{Call, Case, State};
+use super::compiled::Readers;
+use super::library;
+use super::small::counts;
+use super::words::{compiled, with_flags, DECIMAL};
+use crate::group::{Group, Report};
+
+const LONGEST: usize = 300;
+
+/// No byte, a digit, another byte.
+const NEIGHBOURS: [&[u8]; 3] = [b"", b"7", b"x"];
+
+pub fn run(report: &mut Report) {
+    let mut group = Group::new("readers, long runs, peek and next");
+    let decimal = compiled()
+        .iter()
+        .filter(|rust| rust.word().hi() == DECIMAL.hi());
+    for &rust in decimal {
+        for length in 1..=LONGEST {
+            for before in NEIGHBOURS {
+                for after in NEIGHBOURS {
+                    let buffer = [before, &b"_".repeat(length), after].concat();
+                    let start = before.len();
+                    for cursor in [start, start + length / 2] {
+                        compare_at(&mut group, rust, &buffer, cursor);
+                    }
+                }
+            }
+        }
+    }
+    report.close(group);
+}
+
+fn compare_at(group: &mut Group, rust: &dyn Readers, buffer: &[u8], cursor: usize) {
+    let word = rust.word();
+    for reader in with_flags(word) {
+        for counts in counts(reader, cursor) {
+            let case = Case {
+                word,
+                buffer,
+                state: State { cursor, counts },
+                reader,
+            };
+            for call in [Call::Peek, Call::Next] {
+                group.agree(
+                    &format_args!("{call}, {case}"),
+                    ("library", library::call(&case, call)),
+                    ("Rust", rust.call(&case, call)),
+                );
+            }
+        }
+    }
+}

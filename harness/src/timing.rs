@@ -1,0 +1,72 @@
+//! Times several ways of doing the same work, side by side.
+
+use std::time::Instant;
+
+/// Odd, so that the median is one of the rounds.
+pub const ROUNDS: usize = 15;
+
+/// One way: does the work once, and answers a checksum over all its answers.
+pub type Pass<'a> = &'a dyn Fn() -> u64;
+
+/// Nanoseconds per unit of the work in each round, from least to most, and a
+/// sum of the checksums, which shows whether all ways gave the same answers.
+#[derive(Default)]
+pub struct Timing {
+    rounds: Vec<f64>,
+    checksum: u64,
+}
+
+/// Rounds of all ways in turn, each going first as often as the others, so that
+/// a slow moment of the machine falls on all. A round is so many passes that
+/// the clock's own steps vanish.
+pub fn time_in_turn<const WAYS: usize>(
+    ways: [Pass; WAYS],
+    units: usize,
+    passes: u32,
+) -> [Timing; WAYS] {
+    let mut timings = ways.map(|_| Timing::default());
+    for way in ways {
+        way();
+    }
+    for round in 0..ROUNDS {
+        for turn in 0..WAYS {
+            let next = (round + turn) % WAYS;
+            timings[next].add_round(ways[next], units, passes);
+        }
+    }
+    timings
+}
+
+pub fn agree(timings: &[Timing]) -> bool {
+    timings
+        .windows(2)
+        .all(|pair| pair[0].checksum == pair[1].checksum)
+}
+
+impl Timing {
+    fn add_round(&mut self, pass: Pass, units: usize, passes: u32) {
+        let start = Instant::now();
+        for _ in 0..passes {
+            self.checksum = self.checksum.wrapping_add(pass());
+        }
+        let elapsed = start.elapsed().as_nanos() as f64;
+        self.rounds
+            .push(elapsed / (units as f64 * f64::from(passes)));
+        self.rounds.sort_by(f64::total_cmp);
+    }
+
+    /// How many times as long this took.
+    pub fn ratio(&self, other: &Self) -> f64 {
+        self.median() / other.median()
+    }
+
+    fn median(&self) -> f64 {
+        self.rounds[self.rounds.len() / 2]
+    }
+
+    pub fn cell(&self) -> String {
+        let least = self.rounds[0];
+        let most = self.rounds[self.rounds.len() - 1];
+        format!("{:.2} ({least:.2} to {most:.2})", self.median())
+    }
+}
