@@ -11,3 +11,4 @@ pub mod RuleLaws
 pub mod Takes
 pub mod Examples
 pub mod Outcomes
+pub mod Running

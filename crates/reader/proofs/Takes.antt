@@ -2,10 +2,9 @@
 use mathlib.Core.Path.{_≡_, _∙_, refl, sym, ap}
 use mathlib.Core.Bool.{Bool, true, false, cond, not, _&&_}
 use mathlib.Core.List.{List, [], _∷_}
-use mathlib.Core.Logic.{_⊎_, inl, inr}
 use mathlib.Core.Option.{Option, some, none}
 use Prim.Native.Nat.{ℕ, zero, suc, _+_, _-_, _<_, _≤_}
-use native.Mathlib.Nat.{zero-add, add-zero, add-assoc}
+use native.Mathlib.Nat.{zero-add, add-assoc}
 use native.Mathlib.Omega.{arith}
 use lib.Dec.{eqb, ltb}
 use lib.ListN.{length, drop, length-drop}
@@ -13,14 +12,14 @@ use borrow.Author.Tests.{ltb-true, ltb-false, eqb-true}
 use Rattle.reader.specs.declared.state.Reader.{Reader}
 use Rattle.reader.specs.declared.state.Reader.the-variants.{Integer, Fraction, Exponent, Special}
 use Rattle.reader.specs.declared.state.State.{State}
+use Rattle.reader.specs.declared.state.Refusal.{Refusal}
 use Rattle.reader.specs.Place.{isSeparator, byteAt, separatorRun}
 use Rattle.reader.specs.Reading.{Reading, hasAnyFlag, mayPass, passedAt, passesByte}
 use Rattle.reader.specs.State.{countOf, movedTo, countedBy}
-use Rattle.reader.specs.declared.skip.Answer.{Answer}
-use Rattle.reader.specs.Answer.{Outcome, seenByte, outcomeOf}
-use Rattle.reader.specs.Calls.{refusalWith, refusalOf, peeked, peekOf, takenFrom, takeByte, nextOf, takes}
+use Rattle.reader.specs.Answer.{numberOf, Outcome}
+use Rattle.reader.specs.Calls.{refusalWith, refusalOf, refused, peeked, peekOf, takenFrom, takeByte, nextOf, takes}
 use Rattle.reader.proofs.Looking.{byte-missing}
-use Rattle.reader.proofs.Admission.{within}
+use Rattle.reader.proofs.Admission.{within, peek-refused}
 
 -- a byte lies within the buffer
 pub byte-inside : (s : List ℕ) (k b : ℕ) → byteAt s k ≡ some b → k < length s
@@ -97,33 +96,6 @@ module _ (m : Reading) (s : List ℕ) (st : State) (r : Reader) where
         let p = peek-byte c q in
         (taken-moves m r c (peekOf m s st r .state) ∙ ap (λ (n : ℕ). n + 1) (p .0), p .1, refl)
 
-  -- a peek that sees no byte passes nothing, or stays within the buffer
-  peek-none : (st .cursor + peekOf m s st r .passed ≤ length s) ⊎ (peekOf m s st r .passed ≡ 0)
-  unfolding peekOf peeked
-  peek-none = go (eqb (refusalOf m s st r) 0) refl where
-    go : (t : Bool) → eqb (refusalOf m s st r) 0 ≡ t → (st .cursor + peekOf m s st r .passed ≤ length s) ⊎ (peekOf m s st r .passed ≡ 0)
-    go true t =
-        rw t (inl (passed-fits m s (eqb (countOf st r) 0) (st .cursor) (within (m .flags) s st r (eqb-true (refusalOf m s st r) 0 t) .0)))
-    go false t = rw t (inr refl)
-
-  peek-takes-none : peekOf m s st r .taken ≡ 0
-  unfolding peekOf peeked
-  peek-takes-none = go (eqb (refusalOf m s st r) 0) refl where
-    go : (t : Bool) → eqb (refusalOf m s st r) 0 ≡ t → peekOf m s st r .taken ≡ 0
-    go true t = rw t
-    go false t = rw t
-
-  -- the same of a take that sees no byte, which takes none
-  pub next-none : nextOf m s st r .byte ≡ none
-      → ((st .cursor + nextOf m s st r .passed ≤ length s) ⊎ (nextOf m s st r .passed ≡ 0)) × (nextOf m s st r .taken ≡ 0)
-  unfolding nextOf
-  next-none e = go (peekOf m s st r .byte) e where
-    go : (o : Option ℕ) → takeByte m r (peekOf m s st r) o .byte ≡ none
-        → ((st .cursor + takeByte m r (peekOf m s st r) o .passed ≤ length s) ⊎ (takeByte m r (peekOf m s st r) o .passed ≡ 0))
-        × (takeByte m r (peekOf m s st r) o .taken ≡ 0)
-    go none h = (peek-none, peek-takes-none)
-    go (some c) h = absurd (let z : _≡_ {A = ℕ} 0 1 = cc in omega arith)
-
 -- an outcome with more taken and passed before it
 abbrev pub plus : ℕ → ℕ → Outcome → Outcome
 plus taken passed o =
@@ -176,27 +148,11 @@ module _ (m : Reading) (s : List ℕ) (r : Reader) where
           fits = omega (arith, so-far .moves, n .1);
         }
 
-    -- one turn of the code, whose take answered `took`
-    module _ (took : Answer) (known : outcomeOf took ≡ nextOf m s here r) where
-      pub turn-goes-on : (b : ℕ) → seenByte (took .told .seen) ≡ some b
-          → Taking st (taken + 1) (passed + took .told .passed) (took .state)
-          × (took .state .cursor ≡ here .cursor + took .told .passed + 1)
-          × (here .cursor + took .told .passed < length s)
-      turn-goes-on b e =
-          let byte : nextOf m s here r .byte ≡ some b = sym (ap (λ (o : Outcome). o .byte) known) ∙ e in
-          let n = next-byte m s here r b byte in
-          (rw (sym known) at (taking-goes-on b byte), rw (sym known) at (n .0), rw (sym known) at (n .1))
-
-      stopped : seenByte (took .told .seen) ≡ none → nextOf m s here r .byte ≡ none
-      stopped e = sym (ap (λ (o : Outcome). o .byte) known) ∙ e
-
-      pub turn-fits : seenByte (took .told .seen) ≡ none → (here .cursor + took .told .passed ≤ length s) ⊎ (took .told .passed ≡ 0)
-      turn-fits e = rw (sym known) at (next-none m s here r (stopped e) .0)
-
-      pub turn-stops : seenByte (took .told .seen) ≡ none
-          → outcomeOf (record { told = record { seen = took .told .seen; taken = taken; passed = passed + took .told .passed }; state = took .state })
-          ≡ takes (length s) m s r st
-      turn-stops e =
-          let none-taken : took .told .taken ≡ 0 = ap (λ (o : Outcome). o .taken) known ∙ next-none m s here r (stopped e) .1 in
-          let ends : plus taken passed (outcomeOf took) ≡ takes (length s) m s r st = rw (sym known) at (taking-ends (stopped e)) in
-          rw (none-taken, add-zero) at ends
+-- a list of takes from a refused state is the refusal
+pub refused-at-once : (m : Reading) (s : List ℕ) (st : State) (r : Reader) (e : Refusal) → numberOf e ≡ refusalWith (m .flags) s st r
+    → refused (numberOf e) st ≡ takes (length s) m s r st
+unfolding nextOf
+refused-at-once m s st r e number =
+    let seen = peek-refused m s st r e number in
+    let next : nextOf m s st r ≡ refused (numberOf e) st = rw seen in
+    sym (takes-stop m s r (length s) st (ap (λ (o : Outcome). o .byte) next) ∙ next)

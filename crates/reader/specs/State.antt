@@ -1,5 +1,6 @@
 -- The state of a cursor (document 01, "Passing"): the word, the cursor and the three digit counts. Assumes nothing.
-use Prim.Native.Nat.{ℕ, suc, _+_}
+use Prim.Native.Nat.{ℕ, _+_}
+use mathlib.Core.Bool.{Bool, true, false}
 use Rattle.word.specs.declared.format_flags.Format.{Format}
 use Rattle.reader.specs.declared.state.Reader.{Reader}
 use Rattle.reader.specs.declared.state.Reader.the-variants.{Integer, Fraction, Exponent, Special}
@@ -32,3 +33,20 @@ countedBy st Fraction =
 countedBy st Exponent =
     record { format = st .format; cursor = st .cursor; integer = st .integer; fraction = st .fraction; exponent = record { 0 = st .exponent .0 + 1 } }
 countedBy st Special = st
+
+-- the special reader counts nothing
+abbrev pub isCounted : Reader → Bool
+isCounted Integer = true
+isCounted Fraction = true
+isCounted Exponent = true
+isCounted Special = false
+
+-- the same state with n for the reader's own count
+unfoldable pub withCount : State → Reader → ℕ → State
+withCount st Integer n =
+    record { format = st .format; cursor = st .cursor; integer = record { 0 = n }; fraction = st .fraction; exponent = st .exponent }
+withCount st Fraction n =
+    record { format = st .format; cursor = st .cursor; integer = st .integer; fraction = record { 0 = n }; exponent = st .exponent }
+withCount st Exponent n =
+    record { format = st .format; cursor = st .cursor; integer = st .integer; fraction = st .fraction; exponent = record { 0 = n } }
+withCount st Special n = st

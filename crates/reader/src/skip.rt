@@ -1,6 +1,6 @@
 // The cursor that passes digit separators: peek and take. After lexical-util's skip.rs.
 ghost use mathlib.Core.Path.{_≡_};
-ghost use mathlib.Core.Bool.{cond};
+ghost use mathlib.Core.Bool.{cond, _&&_};
 ghost use Prim.Native.Nat.{_+_, _≤_, _<_, _^_};
 ghost use lib.Dec.{eqb};
 ghost use lib.ListN.{length};
@@ -10,7 +10,7 @@ ghost use Rattle.reader.specs.Place.{isSeparator};
 ghost use Rattle.reader.specs.Reading.{syntaxOf, readingWith, readingOf, hasAnyFlag};
 ghost use Rattle.reader.specs.State.{countSum};
 ghost use Rattle.reader.specs.Answer.{lookOutcome, LookFits, outcomeOf, countOutcomeOf};
-ghost use Rattle.reader.specs.Calls.{peekOf, nextOf, nextAllOf, takenFrom, shownCount, currentCountOf, peeked};
+ghost use Rattle.reader.specs.Calls.{peekOf, nextOf, nextAllOf, takenFrom, shownCount, currentCountOf, peeked, refusalWith};
 use crate::passing::Syntax;
 use crate::passing::landing;
 use crate::passing::syntax_of;
@@ -22,7 +22,9 @@ use crate::state::State;
 use crate::state::admit;
 use crate::state::admit_place;
 use crate::state::counted;
+use crate::state::counts_digits;
 use crate::state::moved;
+use crate::state::with_count;
 use word::digit::VALUES;
 use word::digit::char_is_digit_in;
 use word::format_flags::Format;
@@ -180,31 +182,62 @@ pub fn next(s: &[u8], state: State, reader: Reader) -> Answer
     next_in(&values, s, state, syntax, reader)
 }
 
+// The reader's count after a byte that it takes.
+fn count_past(values: &[u8; 256], counts: bool, b: u8, radix: u32, count: usize) -> usize
+    requires { ⌜ (now values ≡ digitTable) × (count + 1 < 2 ^ 64) ⌝ }
+    ensures { λ r. ⌜ r ≡ cond (counts && isDigit b radix) (count + 1) count ⌝ }
+{
+    if counts & char_is_digit_in(values, b, radix) {
+        return count + 1;
+    }
+    count
+}
+
+// Takes until there is no byte, from a state that is not refused. The loop keeps numbers only, and makes the state at its end; most
+// bytes are no separator, so that compare stands first.
+fn take_all(values: &[u8; 256], s: &[u8], state: State, syntax: Syntax, reader: Reader) -> Answer
+    requires { ⌜ (now values ≡ digitTable) × (refusalWith (syntax .flags) (now s) state reader ≡ 0) ⌝ }
+    ensures { λ r. ⌜ outcomeOf r ≡ nextAllOf (readingWith syntax) (now (s .entry)) state reader ⌝ }
+{
+    let separator = syntax.separator;
+    let radix = syntax.radix;
+    let counts = counts_digits(syntax.flags, reader);
+    let start = state.cursor;
+    let mut at = start;
+    let mut count = state.count(reader);
+    let mut passed: usize = 0;
+    while at < s.len() {
+        let b = s[at];
+        if b != separator {
+            count = count_past(values, counts, b, radix, count);
+            at += 1;
+            continue;
+        }
+        let place = landing(values, s, syntax, count == 0, at);
+        let over = place - at;
+        if s.len() <= place {
+            let end = with_count(moved(state, place), reader, count);
+            return answered(Seen::End, at - start - passed, passed + over, end);
+        }
+        let c = s[place];
+        count = count_past(values, counts, c, radix, count);
+        at = place + 1;
+        passed += over;
+    }
+    let end = with_count(moved(state, at), reader, count);
+    answered(Seen::End, at - start - passed, passed, end)
+}
+
 // Takes until there is no byte, with the table lent and what the word says at hand.
 fn next_all_in(values: &[u8; 256], s: &[u8], state: State, syntax: Syntax, reader: Reader) -> Answer
     requires { ⌜ now values ≡ digitTable ⌝ }
     ensures { λ r. ⌜ outcomeOf r ≡ nextAllOf (readingWith syntax) (now (s .entry)) state reader ⌝ }
 {
-    let mut here = state;
-    let mut taken: usize = 0;
-    let mut passed: usize = 0;
-    loop {
-        let took = next_in(values, s, here, syntax, reader);
-        let told = took.told;
-        let seen = told.seen;
-        match seen {
-            Seen::Byte(_) => {
-                taken += 1;
-                passed += told.passed;
-                here = took.state;
-            }
-            Seen::End => {
-                return answered(seen, taken, passed + told.passed, took.state);
-            }
-            Seen::Refused(_) => {
-                return answered(seen, taken, passed + told.passed, took.state);
-            }
-        }
+    let flags = syntax.flags;
+    let admitted = admit(s, state, flags, reader);
+    match admitted {
+        Admission::Admitted => take_all(values, s, state, syntax, reader),
+        Admission::Refused(refusal) => answered(Seen::Refused(refusal), 0, 0, state),
     }
 }
 

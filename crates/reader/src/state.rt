@@ -1,9 +1,10 @@
 // The state of a cursor: a format word, the cursor, and the digits that each reader has counted; and when a state is refused.
 ghost use mathlib.Core.Path.{_≡_};
-ghost use mathlib.Core.Bool.{cond};
+ghost use mathlib.Core.Bool.{cond, _&&_};
+ghost use Rattle.reader.specs.Reading.{hasAnyFlag};
 ghost use Prim.Native.Nat.{_+_, _<_, _^_};
 ghost use lib.Dec.{leb};
-ghost use Rattle.reader.specs.State.{freshOf, countOf, countSum, movedTo, countedBy};
+ghost use Rattle.reader.specs.State.{freshOf, isCounted, countOf, countSum, movedTo, countedBy, withCount};
 ghost use Rattle.reader.specs.Answer.{numberOf, admissionNumber};
 ghost use Rattle.reader.specs.Calls.{consecutiveNumber, placeRefusal, refusalWith};
 use crate::rule::Flags;
@@ -121,6 +122,42 @@ pub(crate) fn counted(state: State, reader: Reader) -> State
         Reader::Special => {}
     }
     next
+}
+
+// The same state with another count for the reader.
+pub(crate) fn with_count(state: State, reader: Reader, count: usize) -> State
+    ensures { λ r. ⌜ r ≡ withCount state reader count ⌝ }
+{
+    let mut next = state;
+    match reader {
+        Reader::Integer => {
+            let own = IntegerCount(count);
+            next.integer = own;
+        }
+        Reader::Fraction => {
+            let own = FractionCount(count);
+            next.fraction = own;
+        }
+        Reader::Exponent => {
+            let own = ExponentCount(count);
+            next.exponent = own;
+        }
+        Reader::Special => {}
+    }
+    next
+}
+
+// Whether a reader counts the digits that it takes: with any flag, and if it counts at all.
+pub(crate) fn counts_digits(flags: Flags, reader: Reader) -> bool
+    ensures { λ r. ⌜ r ≡ (hasAnyFlag flags && isCounted reader) ⌝ }
+{
+    let any = flags.internal | flags.leading | flags.trailing | flags.consecutive;
+    match reader {
+        Reader::Integer => any & true,
+        Reader::Fraction => any & true,
+        Reader::Exponent => any & true,
+        Reader::Special => any & false,
+    }
 }
 
 // Whether the counts together are within the cursor. Nothing is added up, so nothing can overflow.
