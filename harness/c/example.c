@@ -1,4 +1,4 @@
-/* The library from C: the checks of four words, with the answers that they must give. */
+/* The library from C: the checks of four words and a cell read to its end, with the answers that they must give. */
 #include <stdio.h>
 
 #include "pawhetino.h"
@@ -19,8 +19,19 @@ static const struct example examples[] = {
     {"a word from before separators", 0xC, UINT64_C(0x00000A0000000000), 0, 0},
 };
 
+/* `1_204` by the integer reader: four digits, one separator passed. */
+static int read_cell(void) {
+    static const uint8_t cell[] = {'1', '_', '2', '0', '4'};
+    size_t cursor = 0, integer = 0, fraction = 0, exponent = 0, taken, passed;
+    uint8_t has_byte, byte = 0;
+    uint32_t number = pawhetino_next_all(cell, sizeof cell, examples[0].lo, examples[0].hi, 0, &cursor, &integer,
+                                         &fraction, &exponent, &has_byte, &byte, &taken, &passed);
+    printf("1_204: refusal %u, %zu digits, %zu separators passed\n", (unsigned)number, integer, passed);
+    return number != 0 || cursor != 5 || integer != 4 || taken != 4 || passed != 1 || has_byte != 0;
+}
+
 int main(void) {
-    int wrong = 0;
+    int wrong = read_cell();
     for (size_t i = 0; i < sizeof examples / sizeof *examples; i++) {
         const struct example *e = &examples[i];
         uint32_t full = pawhetino_format_error(e->lo, e->hi);
