@@ -5,3 +5,4 @@ pub mod Masks
 pub mod Members
 pub mod Numbers
 pub mod Plain
+pub mod Accepted

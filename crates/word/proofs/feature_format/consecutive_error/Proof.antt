@@ -25,7 +25,8 @@ line-requires-3 c κs = search needs
 
 returns : tie.Need-returns
 unfolding consecutiveLines
-returns c = rw (line-first 11, line-first 12, line-first 13) (cc)
+returns c =
+    rw (line-first 11, line-first 12, line-first 13, c .line3 .ensures, c .before .line2 .ensures, c .before .before .line .ensures, c .before .before .before .is-consecutive-alone3 .ensures, c .before .before .before .before .is-consecutive-alone2 .ensures, c .before .before .before .before .before .is-consecutive-alone .ensures)
 
 pub consecutive-error-spec : {M : Type 1} → statement M
 consecutive-error-spec =

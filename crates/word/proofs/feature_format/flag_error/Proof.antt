@@ -43,7 +43,8 @@ line-requires-4 c κs = search needs
 
 returns : tie.Need-returns
 unfolding flagLines
-returns c = rw (line-first 7, line-first 8, line-first 9, line-first 10) (cc)
+returns c =
+    rw (line-first 7, line-first 8, line-first 9, line-first 10, c .line4 .ensures, c .before .line3 .ensures, c .before .before .line2 .ensures, c .before .before .before .line .ensures, c .before .before .before .before .special-digit-separator .ensures, c .before .before .before .before .before .case-sensitive-special .ensures, c .before .before .before .before .before .before .no-special .ensures, c .before .before .before .before .before .before .before .required-exponent-sign .ensures, c .before .before .before .before .before .before .before .before .no-positive-exponent-sign .ensures, c .before .before .before .before .before .before .before .before .before .required-mantissa-sign .ensures, c .before .before .before .before .before .before .before .before .before .before .no-positive-mantissa-sign .ensures, c .before .before .before .before .before .before .before .before .before .before .before .is-valid-exponent-flags .ensures)
 
 pub flag-error-spec : {M : Type 1} → statement M
 flag-error-spec =

@@ -13,7 +13,7 @@ unfolding digitTable digitValue
 is-valid-optional-control-requires c κs = refl
 
 returns : tie.Need-returns
-returns c = cc
+returns c = rw (c .is-valid-optional-control .ensures, c .before .byte-at .ensures)
 
 pub is-valid-control-at-spec : {M : Type 1} → statement M
 is-valid-control-at-spec =

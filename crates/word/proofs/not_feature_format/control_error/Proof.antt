@@ -25,7 +25,8 @@ line-requires-3 c κs = search needs
 
 returns : tie.Need-returns
 unfolding plainControlLines
-returns c = rw (line-first 3, line-first 4, line-first 5) (cc)
+returns c =
+    rw (line-first 3, line-first 4, line-first 5, c .line3 .ensures, c .before .line2 .ensures, c .before .before .line .ensures, c .before .before .before .base-suffix .ensures, c .before .before .before .before .base-prefix .ensures, c .before .before .before .before .before .digit-separator .ensures)
 
 pub control-error-spec : {M : Type 1} → statement M
 control-error-spec =

@@ -10,7 +10,7 @@ is-success-requires : tie.Need-is-success-requires
 is-success-requires c κs = search needs
 
 returns : tie.Need-returns
-returns c = cc
+returns c = rw (c .is-success .ensures, c .before .error .ensures)
 
 pub is-valid-spec : {M : Type 1} → statement M
 is-valid-spec = tie.close (tie.spec error-requires is-success-requires returns)
