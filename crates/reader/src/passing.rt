@@ -23,7 +23,7 @@ pub struct Syntax {
 }
 
 // The flags of a reader. The special reader has one flag, which stands for all four.
-fn flags_of(format: Format, reader: Reader) -> Flags
+pub(crate) fn flags_of(format: Format, reader: Reader) -> Flags
     ensures { λ r. ⌜ r ≡ flagsOf format reader ⌝ }
 {
     match reader {

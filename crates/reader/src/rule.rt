@@ -28,43 +28,6 @@ pub struct Named {
     pub next: bool,
 }
 
-// The table as data: an entry for each cell (cell_of), in which bit 8 * p + n is the rule's answer for neighbours with the codes p
-// and n (code_of).
-const RULES: [u64; 32] = [
-    0x0000000000000000, // none, first
-    0x0000000000000000, // none, later
-    0xCCCC0000CCCC0000, // I, first
-    0xCCCCCCCCCCCCCCCC, // I, later
-    0x0000000000000F0F, // L, first
-    0x0000000000000000, // L, later
-    0xCCCC0000CCCCFFFF, // IL, first
-    0xCCCCCCCCCCCCCCCC, // IL, later
-    0x0000000003030303, // T, first
-    0x0303030303030303, // T, later
-    0x0F0F03030F0F0303, // IT, first
-    0x0F0F0F0F0F0F0F0F, // IT, later
-    0x0000000003030F0F, // LT, first
-    0x0303030303030303, // LT, later
-    0x000000000F0F0F0F, // ILT, first
-    0x0F0F0F0F0F0F0F0F, // ILT, later
-    0x0000000000000000, // C, first
-    0x0000000000000000, // C, later
-    0xCCCC0000CCCC0000, // IC, first
-    0xCCCCCCCCCCCCCCCC, // IC, later
-    0x0000FFFF0000FFFF, // LC, first
-    0x0000000000000000, // LC, later
-    0xCCCCFFFFCCCCFFFF, // ILC, first
-    0xDDDDDDDDDDDDDDDD, // ILC, later
-    0x3333333333333333, // TC, first
-    0x3333333333333333, // TC, later
-    0x3333FF333333FF33, // ITC, first
-    0xFFFFFFFFFFFFFFFF, // ITC, later
-    0x3333FFFF3333FFFF, // LTC, first
-    0x3333333333333333, // LTC, later
-    0xFFFFFFFFFFFFFFFF, // ILTC, first
-    0xFFFFFFFFFFFFFFFF, // ILTC, later
-];
-
 // The cells whose rule looks at the byte before the separator, and those that look at the byte after it.
 const NAMES_PREVIOUS: u64 = 0x14545554;
 
@@ -95,44 +58,45 @@ fn cell_of(flags: Flags, first: bool) -> u32
         + weighed(flags.consecutive, 16)
 }
 
-// The entry of a cell. A `match`, and not an index, is compiled to a table that is read where it lies.
+// The table as data: an entry for each cell (cell_of), in which bit 8 * p + n is the rule's answer for neighbours with the codes p
+// and n (code_of). A `match`, and not an array, is compiled to a table that is read where it lies.
 fn rule_word(cell: u32) -> u64
     requires { ⌜ cell < 32 ⌝ }
     ensures { λ r. ⌜ IsEntry cell r ⌝ }
 {
     match cell {
-        0 => RULES[0],
-        1 => RULES[1],
-        2 => RULES[2],
-        3 => RULES[3],
-        4 => RULES[4],
-        5 => RULES[5],
-        6 => RULES[6],
-        7 => RULES[7],
-        8 => RULES[8],
-        9 => RULES[9],
-        10 => RULES[10],
-        11 => RULES[11],
-        12 => RULES[12],
-        13 => RULES[13],
-        14 => RULES[14],
-        15 => RULES[15],
-        16 => RULES[16],
-        17 => RULES[17],
-        18 => RULES[18],
-        19 => RULES[19],
-        20 => RULES[20],
-        21 => RULES[21],
-        22 => RULES[22],
-        23 => RULES[23],
-        24 => RULES[24],
-        25 => RULES[25],
-        26 => RULES[26],
-        27 => RULES[27],
-        28 => RULES[28],
-        29 => RULES[29],
-        30 => RULES[30],
-        _ => RULES[31],
+        0 => 0x0000000000000000, // none, first
+        1 => 0x0000000000000000, // none, later
+        2 => 0xCCCC0000CCCC0000, // I, first
+        3 => 0xCCCCCCCCCCCCCCCC, // I, later
+        4 => 0x0000000000000F0F, // L, first
+        5 => 0x0000000000000000, // L, later
+        6 => 0xCCCC0000CCCCFFFF, // IL, first
+        7 => 0xCCCCCCCCCCCCCCCC, // IL, later
+        8 => 0x0000000003030303, // T, first
+        9 => 0x0303030303030303, // T, later
+        10 => 0x0F0F03030F0F0303, // IT, first
+        11 => 0x0F0F0F0F0F0F0F0F, // IT, later
+        12 => 0x0000000003030F0F, // LT, first
+        13 => 0x0303030303030303, // LT, later
+        14 => 0x000000000F0F0F0F, // ILT, first
+        15 => 0x0F0F0F0F0F0F0F0F, // ILT, later
+        16 => 0x0000000000000000, // C, first
+        17 => 0x0000000000000000, // C, later
+        18 => 0xCCCC0000CCCC0000, // IC, first
+        19 => 0xCCCCCCCCCCCCCCCC, // IC, later
+        20 => 0x0000FFFF0000FFFF, // LC, first
+        21 => 0x0000000000000000, // LC, later
+        22 => 0xCCCCFFFFCCCCFFFF, // ILC, first
+        23 => 0xDDDDDDDDDDDDDDDD, // ILC, later
+        24 => 0x3333333333333333, // TC, first
+        25 => 0x3333333333333333, // TC, later
+        26 => 0x3333FF333333FF33, // ITC, first
+        27 => 0xFFFFFFFFFFFFFFFF, // ITC, later
+        28 => 0x3333FFFF3333FFFF, // LTC, first
+        29 => 0x3333333333333333, // LTC, later
+        30 => 0xFFFFFFFFFFFFFFFF, // ILTC, first
+        _ => 0xFFFFFFFFFFFFFFFF, // ILTC, later
     }
 }
 

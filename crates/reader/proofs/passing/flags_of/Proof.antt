@@ -60,19 +60,37 @@ special-digit-separator-requires c κs = search needs
 
 returns : tie.Need-returns
 unfolding flagsOf
-returns c = rw (c .before .before .before .before .enum-told .given .1) (cc)
+returns c = rw (
+  c .before .before .before .before .enum-told .given .1,
+  c .before .before .before .integer-internal-digit-separator .ensures,
+  c .before .before .integer-leading-digit-separator .ensures,
+  c .before .integer-trailing-digit-separator .ensures,
+  c .integer-consecutive-digit-separator .ensures,
+)
 
 returns-2 : tie.Need-returns-2
 unfolding flagsOf
-returns-2 c = rw (c .before .before .before .before .enum-told2 .given .1) (cc)
+returns-2 c = rw (
+  c .before .before .before .before .enum-told2 .given .1,
+  c .before .before .before .fraction-internal-digit-separator .ensures,
+  c .before .before .fraction-leading-digit-separator .ensures,
+  c .before .fraction-trailing-digit-separator .ensures,
+  c .fraction-consecutive-digit-separator .ensures,
+)
 
 returns-3 : tie.Need-returns-3
 unfolding flagsOf
-returns-3 c = rw (c .before .before .before .before .enum-told3 .given .1) (cc)
+returns-3 c = rw (
+  c .before .before .before .before .enum-told3 .given .1,
+  c .before .before .before .exponent-internal-digit-separator .ensures,
+  c .before .before .exponent-leading-digit-separator .ensures,
+  c .before .exponent-trailing-digit-separator .ensures,
+  c .exponent-consecutive-digit-separator .ensures,
+)
 
 returns-4 : tie.Need-returns-4
 unfolding flagsOf
-returns-4 c = rw (c .before .enum-told4 .given .1) (cc)
+returns-4 c = rw (c .before .enum-told4 .given .1, c .special-digit-separator .ensures)
 
 pub flags-of-spec : {M : Type 1} → statement M
 flags-of-spec =

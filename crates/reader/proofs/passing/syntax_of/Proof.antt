@@ -15,7 +15,7 @@ mantissa-radix-requires c κs = search needs
 
 returns : tie.Need-returns
 unfolding syntaxOf
-returns c = cc
+returns c = rw (c .before .before .flags-of .ensures, c .before .digit-separator .ensures, c .mantissa-radix .ensures)
 
 pub syntax-of-spec : {M : Type 1} → statement M
 syntax-of-spec =

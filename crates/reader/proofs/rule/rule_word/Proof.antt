@@ -23,14 +23,6 @@ unfolding every everyCell everyPair isEntry ruleOf bit
 rule-word-spec =
     tie.close
     (tie.spec
-    (λ c. search needs) (λ c. search needs) (λ c. search needs) (λ c. search needs)
-    (λ c. search needs) (λ c. search needs) (λ c. search needs) (λ c. search needs)
-    (λ c. search needs) (λ c. search needs) (λ c. search needs) (λ c. search needs)
-    (λ c. search needs) (λ c. search needs) (λ c. search needs) (λ c. search needs)
-    (λ c. search needs) (λ c. search needs) (λ c. search needs) (λ c. search needs)
-    (λ c. search needs) (λ c. search needs) (λ c. search needs) (λ c. search needs)
-    (λ c. search needs) (λ c. search needs) (λ c. search needs) (λ c. search needs)
-    (λ c. search needs) (λ c. search needs) (λ c. search needs) (λ c. search needs)
     (λ c. entry-holds _ _ tt (c .match .keys1)) (λ c. entry-holds _ _ tt (c .match .keys2))
     (λ c. entry-holds _ _ tt (c .match .keys3)) (λ c. entry-holds _ _ tt (c .match .keys4))
     (λ c. entry-holds _ _ tt (c .match .keys5)) (λ c. entry-holds _ _ tt (c .match .keys6))
