@@ -19,6 +19,12 @@ use Rattle.reader.specs.declared.skip.Count.the-variants as count
 use Rattle.reader.specs.declared.iterator.Read.{Read}
 use Rattle.reader.specs.declared.iterator.Read.the-variants as read
 use Rattle.reader.specs.declared.iterator.ReadAnswer.{ReadAnswer}
+use Rattle.reader.specs.declared.iterator.Skipped.{Skipped}
+use Rattle.reader.specs.declared.iterator.Skipped.the-variants as skipped
+use Rattle.reader.specs.declared.iterator.SkipAnswer.{SkipAnswer}
+use Rattle.reader.specs.declared.skip.Block.{Block}
+use Rattle.reader.specs.declared.skip.Block.the-variants as block
+use Rattle.reader.specs.declared.skip.BlockAnswer.{BlockAnswer}
 use Rattle.reader.specs.State.{movedTo, countSum}
 
 -- "What the office log shows"
@@ -95,3 +101,45 @@ pub record CountOutcome : Type 0 where
 abbrev pub countOutcomeOf : Count → CountOutcome
 countOutcomeOf (count.Shown n) = record { refusal = 0; count = some n }
 countOutcomeOf (count.Refused e) = record { refusal = numberOf e; count = none }
+
+-- a zero skip's outcome has, in place of a byte, how many zeros it took; none where it is refused
+pub record SkipOutcome : Type 0 where
+  pub refusal : ℕ
+  pub zeros : Option ℕ
+  pub taken : ℕ
+  pub passed : ℕ
+  pub state : State
+
+abbrev pub skipNumber : Skipped → ℕ
+skipNumber (skipped.Zeros n) = 0
+skipNumber (skipped.Refused e) = numberOf e
+
+abbrev pub skipZeros : Skipped → Option ℕ
+skipZeros (skipped.Zeros n) = some n
+skipZeros (skipped.Refused e) = none
+
+abbrev pub skipOutcomeOf : SkipAnswer → SkipOutcome
+skipOutcomeOf a =
+    record { refusal = skipNumber (a .told .skipped); zeros = skipZeros (a .told .skipped); taken = a .told .taken; passed = a .told .passed; state = a .state }
+
+-- a block take's outcome: how many bytes the block has; none where the reader answers none, and where it is refused
+pub record BlockOutcome : Type 0 where
+  pub refusal : ℕ
+  pub block : Option ℕ
+  pub taken : ℕ
+  pub passed : ℕ
+  pub state : State
+
+abbrev pub blockNumber : Block → ℕ
+blockNumber block.Taken = 0
+blockNumber block.None = 0
+blockNumber (block.Refused e) = numberOf e
+
+abbrev pub blockBytes : Block → ℕ → Option ℕ
+blockBytes block.Taken taken = some taken
+blockBytes block.None taken = none
+blockBytes (block.Refused e) taken = none
+
+abbrev pub blockOutcomeOf : BlockAnswer → BlockOutcome
+blockOutcomeOf a =
+    record { refusal = blockNumber (a .told .block); block = blockBytes (a .told .block) (a .told .taken); taken = a .told .taken; passed = a .told .passed; state = a .state }

@@ -1,5 +1,5 @@
 -- The calls of a reader (document 01, "Passing", "Readers"), over what the word says to it. Assumes nothing.
-use Prim.Native.Nat.{ℕ, zero, suc, _+_}
+use Prim.Native.Nat.{ℕ, _+_}
 use mathlib.Core.Bool.{Bool, cond, not, _&&_, _||_}
 use mathlib.Core.List.{List, [], _∷_}
 use mathlib.Core.Option.{Option, some, none}
@@ -12,8 +12,9 @@ use Rattle.reader.specs.declared.rule.Flags.{Flags}
 use Rattle.reader.specs.declared.state.State.{State}
 use Rattle.reader.specs.Place.{byteAt}
 use Rattle.reader.specs.Reading.{Reading, hasAnyFlag, isConsecutiveAlone, passedAt}
-use Rattle.reader.specs.State.{countOf, countSum, movedTo, countedBy}
+use Rattle.reader.specs.State.{countOf, countSum, movedTo, countedBy, isCounted}
 use Rattle.reader.specs.Answer.{Outcome, CountOutcome}
+use Rattle.reader.specs.Repeat.{repeated}
 
 -- the number of "consecutive alone" for each counted reader; the special reader has none
 abbrev pub consecutiveNumber : Reader → ℕ
@@ -22,19 +23,24 @@ consecutiveNumber Fraction = 13
 consecutiveNumber Exponent = 14
 consecutiveNumber Special = 0
 
--- Reader calls test 16, 17, then 12 to 14 for the reader's own flags.
+-- Reader calls test 16, 17, 18, then 12 to 14 for the reader's own flags. Only zero skips and block takes test 18.
 abbrev pub line16 : List ℕ → State → ℕ
 line16 s st = line 16 (leb (st .cursor) (length s))
 
 abbrev pub line17 : State → ℕ
 line17 st = line 17 (leb (countSum st) (st .cursor))
 
+abbrev pub line18 : Reader → ℕ
+line18 r = line 18 (isCounted r)
+
+abbrev pub lineConsecutive : Flags → Reader → ℕ
+lineConsecutive f r = line (consecutiveNumber r) (not (isConsecutiveAlone f))
+
 unfoldable pub placeRefusal : List ℕ → State → ℕ
 placeRefusal s st = firstFailing (line16 s st ∷ line17 st ∷ [])
 
 unfoldable pub refusalWith : Flags → List ℕ → State → Reader → ℕ
-refusalWith f s st r =
-    firstFailing (line16 s st ∷ line17 st ∷ line (consecutiveNumber r) (not (isConsecutiveAlone f)) ∷ [])
+refusalWith f s st r = firstFailing (line16 s st ∷ line17 st ∷ lineConsecutive f r ∷ [])
 
 abbrev pub refusalOf : Reading → List ℕ → State → Reader → ℕ
 refusalOf m s st r = refusalWith (m .flags) s st r
@@ -69,35 +75,23 @@ unfoldable pub nextOf : Reading → List ℕ → State → Reader → Outcome
 nextOf m s st r = takeByte m r (peekOf m s st r) (peekOf m s st r .byte)
 
 -- Conditional read: peek; a byte in the set is taken uncounted, else nothing is taken, yet the passing stays.
+abbrev pub readTaken : Outcome → ℕ → Outcome
+readTaken seen b =
+    record { refusal = 0; byte = some b; taken = 1; passed = seen .passed; state = movedTo (seen .state) (seen .state .cursor + 1) }
+
+abbrev pub readDeclined : Outcome → Outcome
+readDeclined seen = record { refusal = 0; byte = none; taken = 0; passed = seen .passed; state = seen .state }
+
 abbrev pub readByteIf : (ℕ → Bool) → Outcome → Option ℕ → Outcome
 readByteIf set seen none = seen
-readByteIf set seen (some b) =
-    cond (set b)
-    (record { refusal = 0; byte = some b; taken = 1; passed = seen .passed; state = movedTo (seen .state) (seen .state .cursor + 1) })
-    (record { refusal = 0; byte = none; taken = 0; passed = seen .passed; state = seen .state })
+readByteIf set seen (some b) = cond (set b) (readTaken seen b) (readDeclined seen)
 
 unfoldable pub readIfOf : Reading → List ℕ → State → Reader → (ℕ → Bool) → Outcome
 readIfOf m s st r set = readByteIf set (peekOf m s st r) (peekOf m s st r .byte)
 
--- Takes until one answers no byte, at most so many; taken and passed are the sums of theirs, the last one's included.
-abbrev pub thenMore : Outcome → (State → Outcome) → Option ℕ → Outcome
-thenMore took more none = took
-thenMore took more (some b) =
-    record {
-      refusal = more (took .state) .refusal;
-      byte = more (took .state) .byte;
-      taken = took .taken + more (took .state) .taken;
-      passed = took .passed + more (took .state) .passed;
-      state = more (took .state) .state;
-    }
-
-unfoldable pub takes : ℕ → Reading → List ℕ → Reader → State → Outcome
-takes zero m s r st = nextOf m s st r
-takes (suc n) m s r st = thenMore (nextOf m s st r) (takes n m s r) (nextOf m s st r .byte)
-
--- Take to the end: there are at most as many takes with a byte as there are bytes.
+-- Take to the end: takes until one answers no byte. There are at most as many takes with a byte as there are bytes.
 unfoldable pub nextAllOf : Reading → List ℕ → State → Reader → Outcome
-nextAllOf m s st r = takes (length s) m s r st
+nextAllOf m s st r = repeated (length s) (λ here. nextOf m s here r) st
 
 -- What the crate's `current_count` shows: of a counted reader with a flag its own count; without one the cursor where the
 -- separator is 0, else the sum of the three counts. The special reader counts nothing.

@@ -10,6 +10,13 @@ use Rattle.reader.specs.declared.state.State.{State}
 abbrev pub freshOf : Format → State
 freshOf f = record { format = f; cursor = 0; integer = record { 0 = 0 }; fraction = record { 0 = 0 }; exponent = record { 0 = 0 } }
 
+-- "Readers: integer 0, fraction 1, exponent 2, special 3."
+abbrev pub readerNumber : Reader → ℕ
+readerNumber Integer = 0
+readerNumber Fraction = 1
+readerNumber Exponent = 2
+readerNumber Special = 3
+
 -- the reader's own count; the special reader counts nothing
 unfoldable pub countOf : State → Reader → ℕ
 countOf st Integer = st .integer .0
