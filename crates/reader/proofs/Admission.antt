@@ -1,13 +1,12 @@
 -- What a call may count on that is not refused, and what it answers where it is. Assumes nothing.
-use mathlib.Core.Path.{_≡_, _∙_, refl, sym}
-use mathlib.Core.Bool.{Bool, true, false, not}
-use mathlib.Core.List.{List, [], _∷_}
-use mathlib.Core.Option.{none}
+use mathlib.Core.Path.{_≡_, refl, sym}
+use mathlib.Core.Bool.{Bool, true, false, cond, not}
+use mathlib.Core.List.{List, [], _∷_, _++_}
 use Prim.Native.Nat.{ℕ, _≤_}
 use native.Mathlib.Omega.{arith}
 use lib.Dec.{eqb, leb}
 use lib.ListN.{length}
-use borrow.Author.Tests.{leb-true}
+use borrow.Author.Tests.{leb-true, le-leb}
 use Rattle.reader.specs.declared.rule.Flags.{Flags}
 use Rattle.reader.specs.declared.state.Reader.{Reader}
 use Rattle.reader.specs.declared.state.State.{State}
@@ -15,9 +14,12 @@ use Rattle.reader.specs.declared.state.Refusal.{Refusal}
 use Rattle.reader.specs.declared.state.Refusal.the-variants.{CursorPastEnd, CountsExceedCursor, SpecialReader, ConsecutiveInteger, ConsecutiveFraction, ConsecutiveExponent}
 use Rattle.reader.specs.State.{countSum}
 use Rattle.word.specs.Check.{line, firstFailing}
+use Rattle.word.proofs.Lines.{line-last, joined}
 use Rattle.reader.specs.Reading.{Reading, isConsecutiveAlone}
 use Rattle.reader.specs.Answer.{numberOf}
-use Rattle.reader.specs.Calls.{line16, line17, consecutiveNumber, placeRefusal, refusalWith, refused, peeked, peekOf}
+use Rattle.reader.specs.Calls.{line16, line17, line18, lineConsecutive, consecutiveNumber, placeRefusal, refusalWith, refused, peeked, peekOf}
+use Rattle.reader.specs.ZeroSkip.{skipRefusal}
+use Rattle.reader.specs.Block.{blockRefusal}
 
 -- where the tests 16 and 17 hold and whatever comes after them, the cursor is within the buffer and the counts within the cursor
 module _ (s : List ℕ) (st : State) (rest : List ℕ) where
@@ -39,6 +41,15 @@ module _ (s : List ℕ) (st : State) (rest : List ℕ) where
     go false false p q h = absurd (let z : 16 ≡ 0 = rw p at h in omega arith)
     go true false p q h = absurd (let z : 17 ≡ 0 = rw (p, q) at h in omega arith)
 
+-- and they hold of another state that is so within
+still-clear : (s : List ℕ) (st here : State) (rest : List ℕ) → Clear s st rest → here .cursor ≤ length s → countSum here ≤ here .cursor → Clear s here rest
+unfolding Clear
+still-clear s st here rest clear cursor counts =
+    let a = cursor-within s st rest clear in
+    let b = counts-within s st rest clear in
+    rw (le-leb (here .cursor) (length s) cursor, le-leb (countSum here) (here .cursor) counts)
+    (rw (le-leb (st .cursor) (length s) a, le-leb (countSum st) (st .cursor) b) at clear)
+
 pub place-within : (s : List ℕ) (st : State) → placeRefusal s st ≡ 0 → (st .cursor ≤ length s) × (countSum st ≤ st .cursor)
 unfolding placeRefusal Clear
 place-within s st clear = (cursor-within s st [] clear, counts-within s st [] clear)
@@ -48,6 +59,32 @@ unfolding refusalWith Clear
 within f s st r clear =
     let rest = line (consecutiveNumber r) (not (isConsecutiveAlone f)) ∷ [] in
     (cursor-within s st rest clear, counts-within s st rest clear)
+
+pub block-within : (s : List ℕ) (st : State) (r : Reader) → blockRefusal s st r ≡ 0 → st .cursor ≤ length s
+unfolding blockRefusal Clear
+block-within s st r clear = cursor-within s st (line18 r ∷ []) clear
+
+pub skip-within : (f : Flags) (s : List ℕ) (st : State) (r : Reader) → skipRefusal f s st r ≡ 0 → (st .cursor ≤ length s) × (countSum st ≤ st .cursor)
+unfolding skipRefusal Clear
+skip-within f s st r clear =
+    let rest = line18 r ∷ lineConsecutive f r ∷ [] in
+    (cursor-within s st rest clear, counts-within s st rest clear)
+
+-- a state that is not refused stays so while its cursor is within the buffer and its counts within the cursor
+module _ (f : Flags) (s : List ℕ) (st here : State) (r : Reader) (cursor : here .cursor ≤ length s) (counts : countSum here ≤ here .cursor) where
+  pub still-admitted : refusalWith f s st r ≡ 0 → refusalWith f s here r ≡ 0
+  unfolding refusalWith Clear
+  still-admitted clear = still-clear s st here (lineConsecutive f r ∷ []) clear cursor counts
+
+  pub still-skipping : skipRefusal f s st r ≡ 0 → skipRefusal f s here r ≡ 0
+  unfolding skipRefusal Clear
+  still-skipping clear = still-clear s st here (line18 r ∷ lineConsecutive f r ∷ []) clear cursor counts
+
+-- where a list of tests does not fail, one more test after them decides
+pub one-more : (tests : List ℕ) (number : ℕ) (holds : Bool) (first rest answer : ℕ)
+    → first ≡ firstFailing tests → rest ≡ line number holds → answer ≡ cond (eqb first 0) rest first
+    → answer ≡ firstFailing (tests ++ (line number holds ∷ []))
+one-more tests number holds first rest answer f l e = rw (joined tests (line number holds ∷ []), line-last number holds, sym f, sym l) e
 
 -- a refusal's number is not that of success
 pub refusal-tells : (e : Refusal) → eqb (numberOf e) 0 ≡ false

@@ -12,7 +12,13 @@ use Rattle.reader.specs.declared.skip.Answer.{Answer}
 use Rattle.reader.specs.declared.iterator.Read.{Read}
 use Rattle.reader.specs.declared.iterator.Read.the-variants as read
 use Rattle.reader.specs.declared.iterator.ReadAnswer.{ReadAnswer}
-use Rattle.reader.specs.Answer.{numberOf, Outcome, seenNumber, seenByte, outcomeOf, readNumber, readByte, readOutcomeOf}
+use Rattle.reader.specs.declared.iterator.Skipped.{Skipped}
+use Rattle.reader.specs.declared.iterator.Skipped.the-variants as skipped
+use Rattle.reader.specs.declared.iterator.SkipAnswer.{SkipAnswer}
+use Rattle.reader.specs.declared.skip.Block.{Block}
+use Rattle.reader.specs.declared.skip.Block.the-variants as block
+use Rattle.reader.specs.declared.skip.BlockAnswer.{BlockAnswer}
+use Rattle.reader.specs.Answer.{numberOf, Outcome, seenNumber, seenByte, outcomeOf, readNumber, readByte, readOutcomeOf, SkipOutcome, skipNumber, skipZeros, skipOutcomeOf, BlockOutcome, blockNumber, blockBytes, blockOutcomeOf}
 use Rattle.reader.proofs.Admission.{refusal-tells}
 
 -- the refusal with a number; the last one stands for all other numbers
@@ -32,40 +38,74 @@ refusal-back ConsecutiveInteger = refl
 refusal-back ConsecutiveFraction = refl
 refusal-back ConsecutiveExponent = refl
 
+-- A case of an answer, from the refusal's number and what is answered: `some` of it, and of the other two the one that the number tells.
+module _ {X : Type 0} (answered : ℕ → X) (other : X) (refused : Refusal → X) where
+  abbrev caseFrom : ℕ → Option ℕ → X
+  caseFrom n (some b) = answered b
+  caseFrom n none = cond (eqb n 0) other (refused (refusalFrom n))
+
+  refused-back : (e : Refusal) → caseFrom (numberOf e) none ≡ refused e
+  refused-back e = rw (refusal-tells e, refusal-back e)
+
+-- what has a way back from its outcome is told by it
+tells : {A O : Type 0} (of : A → O) (from : O → A) → ((a : A) → from (of a) ≡ a) → (a b : A) → of a ≡ of b → a ≡ b
+tells of from back a b e = sym (back a) ∙ ap from e ∙ back b
+
 -- a peek's and a take's
 abbrev seenFrom : ℕ → Option ℕ → Seen
-seenFrom n (some b) = seen.Byte b
-seenFrom n none = cond (eqb n 0) seen.End (seen.Refused (refusalFrom n))
+seenFrom = caseFrom seen.Byte seen.End seen.Refused
 
 seen-back : (x : Seen) → seenFrom (seenNumber x) (seenByte x) ≡ x
 seen-back (seen.Byte b) = refl
 seen-back seen.End = refl
-seen-back (seen.Refused e) = rw (refusal-tells e, refusal-back e)
-
-abbrev answerFrom : Outcome → Answer
-answerFrom o = record { told = record { seen = seenFrom (o .refusal) (o .byte); taken = o .taken; passed = o .passed }; state = o .state }
-
-answer-back : (a : Answer) → answerFrom (outcomeOf a) ≡ a
-answer-back a = ap (λ (x : Seen). record { told = record { seen = x; taken = a .told .taken; passed = a .told .passed }; state = a .state }) (seen-back (a .told .seen))
+seen-back (seen.Refused e) = refused-back seen.Byte seen.End seen.Refused e
 
 pub outcome-tells : (a b : Answer) → outcomeOf a ≡ outcomeOf b → a ≡ b
-outcome-tells a b e = sym (answer-back a) ∙ ap answerFrom e ∙ answer-back b
+outcome-tells =
+    tells outcomeOf
+    (λ (o : Outcome). record { told = record { seen = seenFrom (o .refusal) (o .byte); taken = o .taken; passed = o .passed }; state = o .state })
+    (λ a. ap (λ (x : Seen). record { told = record { seen = x; taken = a .told .taken; passed = a .told .passed }; state = a .state }) (seen-back (a .told .seen)))
 
 -- a conditional read's
 abbrev readFrom : ℕ → Option ℕ → Read
-readFrom n (some b) = read.Taken b
-readFrom n none = cond (eqb n 0) read.Declined (read.Refused (refusalFrom n))
+readFrom = caseFrom read.Taken read.Declined read.Refused
 
 read-back : (x : Read) → readFrom (readNumber x) (readByte x) ≡ x
 read-back (read.Taken b) = refl
 read-back read.Declined = refl
-read-back (read.Refused e) = rw (refusal-tells e, refusal-back e)
-
-abbrev readAnswerFrom : Outcome → ReadAnswer
-readAnswerFrom o = record { told = record { read = readFrom (o .refusal) (o .byte); taken = o .taken; passed = o .passed }; state = o .state }
-
-read-answer-back : (a : ReadAnswer) → readAnswerFrom (readOutcomeOf a) ≡ a
-read-answer-back a = ap (λ (x : Read). record { told = record { read = x; taken = a .told .taken; passed = a .told .passed }; state = a .state }) (read-back (a .told .read))
+read-back (read.Refused e) = refused-back read.Taken read.Declined read.Refused e
 
 pub read-outcome-tells : (a b : ReadAnswer) → readOutcomeOf a ≡ readOutcomeOf b → a ≡ b
-read-outcome-tells a b e = sym (read-answer-back a) ∙ ap readAnswerFrom e ∙ read-answer-back b
+read-outcome-tells =
+    tells readOutcomeOf
+    (λ (o : Outcome). record { told = record { read = readFrom (o .refusal) (o .byte); taken = o .taken; passed = o .passed }; state = o .state })
+    (λ a. ap (λ (x : Read). record { told = record { read = x; taken = a .told .taken; passed = a .told .passed }; state = a .state }) (read-back (a .told .read)))
+
+-- a zero skip's: it has no third case
+abbrev skippedFrom : ℕ → Option ℕ → Skipped
+skippedFrom = caseFrom skipped.Zeros (skipped.Zeros 0) skipped.Refused
+
+skipped-back : (x : Skipped) → skippedFrom (skipNumber x) (skipZeros x) ≡ x
+skipped-back (skipped.Zeros n) = refl
+skipped-back (skipped.Refused e) = refused-back skipped.Zeros (skipped.Zeros 0) skipped.Refused e
+
+pub skip-outcome-tells : (a b : SkipAnswer) → skipOutcomeOf a ≡ skipOutcomeOf b → a ≡ b
+skip-outcome-tells =
+    tells skipOutcomeOf
+    (λ (o : SkipOutcome). record { told = record { skipped = skippedFrom (o .refusal) (o .zeros); taken = o .taken; passed = o .passed }; state = o .state })
+    (λ a. ap (λ (x : Skipped). record { told = record { skipped = x; taken = a .told .taken; passed = a .told .passed }; state = a .state }) (skipped-back (a .told .skipped)))
+
+-- a block take's: how many bytes its block has is told apart from its case
+abbrev blockCaseFrom : ℕ → Option ℕ → Block
+blockCaseFrom = caseFrom (λ k. block.Taken) block.None block.Refused
+
+block-back : (x : Block) (taken : ℕ) → blockCaseFrom (blockNumber x) (blockBytes x taken) ≡ x
+block-back block.Taken taken = refl
+block-back block.None taken = refl
+block-back (block.Refused e) taken = refused-back (λ k. block.Taken) block.None block.Refused e
+
+pub block-outcome-tells : (a b : BlockAnswer) → blockOutcomeOf a ≡ blockOutcomeOf b → a ≡ b
+block-outcome-tells =
+    tells blockOutcomeOf
+    (λ (o : BlockOutcome). record { told = record { block = blockCaseFrom (o .refusal) (o .block); taken = o .taken; passed = o .passed }; state = o .state })
+    (λ a. ap (λ (x : Block). record { told = record { block = x; taken = a .told .taken; passed = a .told .passed }; state = a .state }) (block-back (a .told .block) (a .told .taken)))

@@ -18,19 +18,12 @@ use Rattle.reader.specs.Place.{byteAt}
 use Rattle.reader.specs.Reading.{Reading, hasAnyFlag, mayPass, passedAt}
 use Rattle.reader.specs.State.{isCounted, countOf, countSum, movedTo, countedBy, withCount}
 use Rattle.reader.specs.Answer.{Outcome}
-use Rattle.reader.specs.Calls.{consecutiveNumber, refusalWith, seenPast, peeked, peekOf, takenFrom, takeByte, nextOf, takes}
+use Rattle.reader.specs.Calls.{consecutiveNumber, refusalWith, seenPast, peeked, peekOf, takenFrom, takeByte, nextOf}
 use Rattle.reader.proofs.Looking.{byte-there, byte-missing}
-use Rattle.reader.proofs.Admission.{within, peek-admitted}
-use Rattle.reader.proofs.Takes.{Taking, taking-starts, taking-ends, taking-goes-on}
-
--- a state that is not refused stays so while its cursor is within the buffer and its counts within the cursor
-pub still-admitted : (f : Flags) (s : List ℕ) (st here : State) (r : Reader) → refusalWith f s st r ≡ 0
-    → here .cursor ≤ length s → countSum here ≤ here .cursor → refusalWith f s here r ≡ 0
-unfolding refusalWith
-still-admitted f s st here r clear cursor counts =
-    let w = within f s st r clear in
-    rw (le-leb (here .cursor) (length s) cursor, le-leb (countSum here) (here .cursor) counts)
-    (rw (le-leb (st .cursor) (length s) (w .0), le-leb (countSum st) (st .cursor) (w .1)) at clear)
+use Rattle.reader.proofs.Admission.{within, still-admitted, peek-admitted}
+use Rattle.reader.specs.Repeat.{repeated}
+use Rattle.reader.proofs.Repeats.{Repeating, repeating-starts, repeating-ends, repeating-goes-on}
+use Rattle.reader.proofs.Takes.{next-takes-one}
 
 -- the state at a place with a count
 abbrev pub stateAt : State → Reader → ℕ → ℕ → State
@@ -105,10 +98,14 @@ end-passes-none : (m : Reading) (s : List ℕ) (isFirst : Bool) (place : ℕ) �
 unfolding passedAt mayPass
 end-passes-none m s isFirst place out = rw (byte-missing s place out)
 
+-- the call that the loop repeats
+abbrev take : Reading → List ℕ → Reader → State → Outcome
+take m s r here = nextOf m s here r
+
 module _ (m : Reading) (s : List ℕ) (r : Reader) (st : State) where
   -- The loop stands at a place with a count, and has passed so many: these are the numbers of a list of takes from `st`.
   pub record Running (at count passed : ℕ) : Type 0 where
-    pub so-far : Taking m s r st (at - st .cursor - passed) passed (stateAt st r at count)
+    pub so-far : Repeating s (take m s r) st (at - st .cursor - passed) passed (stateAt st r at count)
     pub counted : countOf (stateAt st r at count) r ≡ count
     pub sums : countSum (stateAt st r at count) ≤ at
     pub inside : at ≤ length s
@@ -125,7 +122,7 @@ module _ (m : Reading) (s : List ℕ) (r : Reader) (st : State) (clear : refusal
       let same = own-count st r in
       let none-yet : st .cursor - st .cursor - 0 ≡ 0 = omega arith in
       record {
-        so-far = rw (same, none-yet) (taking-starts m s r st);
+        so-far = rw (same, none-yet) (repeating-starts s (take m s r) st);
         counted = rw same;
         sums = rw same (w .1);
         inside = w .0;
@@ -140,7 +137,7 @@ module _ (m : Reading) (s : List ℕ) (r : Reader) (st : State) (clear : refusal
     unfolding peeked
     peeks =
         let c = at-cursor st r at count in
-        let open-now = still-admitted (m .flags) s st now r clear (rw c (here .inside)) (rw c (here .sums)) in
+        let open-now = still-admitted (m .flags) s st now r (rw c (here .inside)) (rw c (here .sums)) clear in
         peek-admitted m s now r open-now ∙ rw (here .counted, c)
 
     module _ (place : ℕ) (lands : place ≡ at + passedAt m s (eqb count 0) at) where
@@ -179,8 +176,8 @@ module _ (m : Reading) (s : List ℕ) (r : Reader) (st : State) (clear : refusal
       running-on h =
           let b = getD s place 0 in
           let n = takes-byte h in
-          let took : Taking m s r st (at - st .cursor - passed + 1) (passed + nextOf m s now r .passed) (nextOf m s now r .state) =
-          taking-goes-on m s r st (at - st .cursor - passed) passed now (here .so-far) b (ap (λ (o : Outcome). o .byte) n) in
+          let took : Repeating s (take m s r) st (at - st .cursor - passed + 1) (passed + nextOf m s now r .passed) (nextOf m s now r .state) =
+          repeating-goes-on s (take m s r) st (at - st .cursor - passed) passed now (here .so-far) b (ap (λ (o : Outcome). o .byte) n) (next-takes-one m s now r b (ap (λ (o : Outcome). o .byte) n)) in
           let same : at - st .cursor - passed + 1 ≡ (place + 1) - st .cursor - (passed + (place - at)) = omega (arith, here .started, lands) in
           record {
             so-far = rw same at (rw state-on at (rw n at took));
@@ -193,15 +190,15 @@ module _ (m : Reading) (s : List ℕ) (r : Reader) (st : State) (clear : refusal
       -- where the end is found the list of takes is over
       pub running-over : length s ≤ place
           → record { refusal = 0; byte = none; taken = at - st .cursor - passed; passed = passed + (place - at); state = stateAt st r place count }
-          ≡ takes (length s) m s r st
+          ≡ repeated (length s) (take m s r) st
       running-over out =
           let last = takes-end out in
-          let over = taking-ends m s r st (at - st .cursor - passed) passed now (here .so-far) (ap (λ (o : Outcome). o .byte) last) in
+          let over = repeating-ends s (take m s r) st (at - st .cursor - passed) passed now (here .so-far) (ap (λ (o : Outcome). o .byte) last) in
           rw (last, add-zero (at - st .cursor - passed)) at over
 
     -- so it is where the loop comes to the end: the last take passes nothing
     pub running-out : length s ≤ at
-        → record { refusal = 0; byte = none; taken = at - st .cursor - passed; passed = passed; state = now } ≡ takes (length s) m s r st
+        → record { refusal = 0; byte = none; taken = at - st .cursor - passed; passed = passed; state = now } ≡ repeated (length s) (take m s r) st
     running-out out =
         let stays : at ≡ at + passedAt m s (eqb count 0) at = rw (end-passes-none m s (eqb count 0) at out) (omega arith) in
         let none-passed : passed + (at - at) ≡ passed = omega arith in

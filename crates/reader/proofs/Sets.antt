@@ -1,10 +1,9 @@
 -- A conditional read asks its set only of bytes of the buffer, so two sets that agree on all bytes read alike. Assumes nothing.
-use mathlib.Core.Path.{_≡_, _∙_, refl, sym, ap}
+use mathlib.Core.Path.{_≡_, _∙_, refl, sym}
 use mathlib.Core.Bool.{Bool, true, false}
 use mathlib.Core.List.{List}
 use mathlib.Core.Option.{Option, some, none}
-use Prim.Native.Nat.{ℕ, _+_, _<_, _≤_}
-use native.Mathlib.Omega.{arith}
+use Prim.Native.Nat.{ℕ, _+_, _<_}
 use lib.Dec.{eqb, ltb}
 use lib.ListN.{length, getD}
 use borrow.Author.Tests.{ltb-true, ltb-false}
@@ -15,7 +14,7 @@ use Rattle.reader.specs.Reading.{Reading, passedAt}
 use Rattle.reader.specs.State.{countOf}
 use Rattle.reader.specs.Answer.{Outcome}
 use Rattle.reader.specs.Calls.{refusalOf, peeked, peekOf, readByteIf, readIfOf}
-use Rattle.reader.proofs.Looking.{byte-there, byte-missing}
+use Rattle.reader.proofs.Looking.{byte-there, byte-missing, none-there}
 
 module _ (s : List ℕ) (bytes : (i : ℕ) → i < length s → getD s i 0 < 256) where
   byte-small : (k b : ℕ) → byteAt s k ≡ some b → b < 256
@@ -26,15 +25,14 @@ module _ (s : List ℕ) (bytes : (i : ℕ) → i < length s → getD s i 0 < 256
         let same : getD s k 0 ≡ b = cc (byte-there s k h) in
         rw same at (bytes k h)
     go false t =
-        let h = ltb-false k (length s) t in
-        absurd (let z : _≡_ {A = ℕ} 0 1 = cc (byte-missing s k h) in omega arith)
+        absurd (none-there b (sym (byte-missing s k (ltb-false k (length s) t)) ∙ e))
 
   seen-small : (m : Reading) (st : State) (r : Reader) (b : ℕ) → peekOf m s st r .byte ≡ some b → b < 256
   unfolding peekOf peeked
   seen-small m st r b e = go (eqb (refusalOf m s st r) 0) refl e where
     go : (t : Bool) → eqb (refusalOf m s st r) 0 ≡ t → peekOf m s st r .byte ≡ some b → b < 256
     go true t h = byte-small (st .cursor + passedAt m s (eqb (countOf st r) 0) (st .cursor)) b (rw t at h)
-    go false t h = absurd (let n : _≡_ {A = Option ℕ} none (some b) = rw t at h in let z : _≡_ {A = ℕ} 0 1 = cc in omega arith)
+    go false t h = absurd (none-there b (rw t at h))
 
   module _ (f g : ℕ → Bool) (agree : (b : ℕ) → b < 256 → f b ≡ g b) where
     same-read : (seen : Outcome) (o : Option ℕ) → ((b : ℕ) → o ≡ some b → b < 256) → readByteIf f seen o ≡ readByteIf g seen o

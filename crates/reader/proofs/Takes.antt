@@ -1,10 +1,9 @@
--- Takes one after the other: where a take leaves the cursor, and how a list of takes goes on. Assumes nothing.
+-- Where a take leaves the cursor, and takes from a refused state. Assumes nothing.
 use mathlib.Core.Path.{_≡_, _∙_, refl, sym, ap}
-use mathlib.Core.Bool.{Bool, true, false, cond, not, _&&_}
+use mathlib.Core.Bool.{Bool, true, false, cond, _&&_}
 use mathlib.Core.List.{List, [], _∷_}
 use mathlib.Core.Option.{Option, some, none}
-use Prim.Native.Nat.{ℕ, zero, suc, _+_, _-_, _<_, _≤_}
-use native.Mathlib.Nat.{zero-add, add-assoc}
+use Prim.Native.Nat.{ℕ, suc, _+_, _-_, _<_, _≤_}
 use native.Mathlib.Omega.{arith}
 use lib.Dec.{eqb, ltb}
 use lib.ListN.{length, drop, length-drop}
@@ -15,11 +14,13 @@ use Rattle.reader.specs.declared.state.State.{State}
 use Rattle.reader.specs.declared.state.Refusal.{Refusal}
 use Rattle.reader.specs.Place.{isSeparator, byteAt, separatorRun}
 use Rattle.reader.specs.Reading.{Reading, hasAnyFlag, mayPass, passedAt, passesByte}
-use Rattle.reader.specs.State.{countOf, movedTo, countedBy}
+use Rattle.reader.specs.State.{countSum, movedTo, countedBy}
 use Rattle.reader.specs.Answer.{numberOf, Outcome}
-use Rattle.reader.specs.Calls.{refusalWith, refusalOf, refused, peeked, peekOf, takenFrom, takeByte, nextOf, takes}
-use Rattle.reader.proofs.Looking.{byte-missing}
+use Rattle.reader.specs.Calls.{refusalWith, refusalOf, refused, peeked, peekOf, takenFrom, takeByte, nextOf}
+use Rattle.reader.proofs.Looking.{byte-missing, none-there}
+use Rattle.reader.specs.Repeat.{repeated}
 use Rattle.reader.proofs.Admission.{within, peek-refused}
+use Rattle.reader.proofs.Repeats.{repeated-stops, TakesOne}
 
 -- a byte lies within the buffer
 pub byte-inside : (s : List ℕ) (k b : ℕ) → byteAt s k ≡ some b → k < length s
@@ -27,8 +28,7 @@ byte-inside s k b e = go (ltb k (length s)) refl where
   go : (t : Bool) → ltb k (length s) ≡ t → k < length s
   go true t = ltb-true k (length s) t
   go false t =
-      let h = ltb-false k (length s) t in
-      absurd (let z : _≡_ {A = ℕ} 0 1 = cc (byte-missing s k h) in omega arith)
+      absurd (none-there b (sym (byte-missing s k (ltb-false k (length s) t)) ∙ e))
 
 run-fits : (separator : ℕ) (l : List ℕ) → separatorRun separator l ≤ length l
 run-fits separator [] = omega arith
@@ -55,7 +55,7 @@ module _ (m : Reading) (s : List ℕ) (isFirst : Bool) (place : ℕ) where
     go true false p q = rw (p, q) (omega (arith, one-fits p))
 
 -- a count leaves the cursor where it is
-counted-stays : (st : State) (r : Reader) → countedBy st r .cursor ≡ st .cursor
+pub counted-stays : (st : State) (r : Reader) → countedBy st r .cursor ≡ st .cursor
 unfolding countedBy
 counted-stays st Integer = refl
 counted-stays st Fraction = refl
@@ -69,90 +69,38 @@ taken-moves m r b st = go (hasAnyFlag (m .flags) && m .digit b) where
   go true = counted-stays (movedTo st (st .cursor + 1)) r
   go false = refl
 
+-- a peek that sees a byte has moved by what it passed, stands on a byte of the buffer, and its counts are within where it was
+pub record StandsOn (s : List ℕ) (st : State) (o : Outcome) : Type 0 where
+  pub moves : o .state .cursor ≡ st .cursor + o .passed
+  pub inside : st .cursor + o .passed < length s
+  pub sums : countSum (o .state) ≤ st .cursor
+
 module _ (m : Reading) (s : List ℕ) (st : State) (r : Reader) where
-  -- a peek that sees a byte has moved by what it passed, and stands on a byte of the buffer
-  peek-byte : (b : ℕ) → peekOf m s st r .byte ≡ some b
-      → (peekOf m s st r .state .cursor ≡ st .cursor + peekOf m s st r .passed) × (st .cursor + peekOf m s st r .passed < length s)
+  pub peek-byte : (b : ℕ) → peekOf m s st r .byte ≡ some b → StandsOn s st (peekOf m s st r)
   unfolding peekOf peeked movedTo
   peek-byte b e = go (eqb (refusalOf m s st r) 0) refl e where
-    go : (t : Bool) → eqb (refusalOf m s st r) 0 ≡ t → peekOf m s st r .byte ≡ some b
-        → (peekOf m s st r .state .cursor ≡ st .cursor + peekOf m s st r .passed) × (st .cursor + peekOf m s st r .passed < length s)
-    go true t h = rw t (refl, byte-inside s _ b (rw t at h))
-    go false t h = absurd (let n : _≡_ {A = Option ℕ} none (some b) = rw t at h in let z : _≡_ {A = ℕ} 0 1 = cc in omega arith)
+    go : (t : Bool) → eqb (refusalOf m s st r) 0 ≡ t → peekOf m s st r .byte ≡ some b → StandsOn s st (peekOf m s st r)
+    go true t h =
+        let clear = eqb-true (refusalOf m s st r) 0 t in
+        rw t (record { moves = refl; inside = byte-inside s _ b (rw t at h); sums = within (m .flags) s st r clear .1 })
+    go false t h = absurd (none-there b (rw t at h))
 
-  -- the same of a take
-  pub next-byte : (b : ℕ) → nextOf m s st r .byte ≡ some b
-      → (nextOf m s st r .state .cursor ≡ st .cursor + nextOf m s st r .passed + 1)
-      × (st .cursor + nextOf m s st r .passed < length s)
-      × (nextOf m s st r .taken ≡ 1)
+  -- a take with a byte took one
+  pub next-takes-one : (b : ℕ) → nextOf m s st r .byte ≡ some b → TakesOne s st (nextOf m s st r)
   unfolding nextOf
-  next-byte b e = go (peekOf m s st r .byte) refl e where
+  next-takes-one b e = go (peekOf m s st r .byte) refl e where
     go : (o : Option ℕ) → peekOf m s st r .byte ≡ o → takeByte m r (peekOf m s st r) o .byte ≡ some b
-        → (takeByte m r (peekOf m s st r) o .state .cursor ≡ st .cursor + takeByte m r (peekOf m s st r) o .passed + 1)
-        × (st .cursor + takeByte m r (peekOf m s st r) o .passed < length s)
-        × (takeByte m r (peekOf m s st r) o .taken ≡ 1)
-    go none q h = absurd (let z : _≡_ {A = ℕ} 0 1 = cc in omega arith)
+        → TakesOne s st (takeByte m r (peekOf m s st r) o)
+    go none q h = absurd (none-there b (sym q ∙ h))
     go (some c) q h =
         let p = peek-byte c q in
-        (taken-moves m r c (peekOf m s st r .state) ∙ ap (λ (n : ℕ). n + 1) (p .0), p .1, refl)
+        record { moves = taken-moves m r c (peekOf m s st r .state) ∙ ap (λ (n : ℕ). n + 1) (p .moves); inside = p .inside; one = refl }
 
--- an outcome with more taken and passed before it
-abbrev pub plus : ℕ → ℕ → Outcome → Outcome
-plus taken passed o =
-    record { refusal = o .refusal; byte = o .byte; taken = taken + o .taken; passed = passed + o .passed; state = o .state }
-
-plus-zero : (o : Outcome) → plus 0 0 o ≡ o
-plus-zero o = rw (zero-add (o .taken), zero-add (o .passed))
-
-plus-plus : (a b c d : ℕ) (o : Outcome) → plus a b (plus c d o) ≡ plus (a + c) (b + d) o
-plus-plus a b c d o = rw (add-assoc a c (o .taken), add-assoc b d (o .passed))
-
-module _ (m : Reading) (s : List ℕ) (r : Reader) where
-  takes-stop : (n : ℕ) (st : State) → nextOf m s st r .byte ≡ none → takes n m s r st ≡ nextOf m s st r
-  unfolding takes
-  takes-stop zero st e = refl
-  takes-stop (suc n) st e = rw e
-
-  takes-go : (n : ℕ) (st : State) (b : ℕ) → nextOf m s st r .byte ≡ some b
-      → takes (suc n) m s r st ≡ plus (nextOf m s st r .taken) (nextOf m s st r .passed) (takes n m s r (nextOf m s st r .state))
-  unfolding takes
-  takes-go n st b e = rw e
-
-  -- A list of takes from `st` has come to `here`: with what is taken and passed so far it answers what the takes from here answer.
-  pub record Taking (st : State) (taken passed : ℕ) (here : State) : Type 0 where
-    pub same : takes (length s) m s r st ≡ plus taken passed (takes (length s - taken) m s r here)
-    pub moves : st .cursor + taken + passed ≡ here .cursor
-    pub fits : passed ≤ length s
-
-  pub taking-starts : (st : State) → Taking st 0 0 st
-  taking-starts st =
-      let all : length s - 0 ≡ length s = omega arith in
-      record { same = rw all (sym (plus-zero (takes (length s) m s r st))); moves = omega arith; fits = omega arith }
-
-  module _ (st : State) (taken passed : ℕ) (here : State) (so-far : Taking st taken passed here) where
-    pub taking-ends : nextOf m s here r .byte ≡ none → plus taken passed (nextOf m s here r) ≡ takes (length s) m s r st
-    taking-ends e = sym (so-far .same ∙ ap (plus taken passed) (takes-stop (length s - taken) here e))
-
-    pub taking-goes-on : (b : ℕ) → nextOf m s here r .byte ≡ some b
-        → Taking st (taken + 1) (passed + nextOf m s here r .passed) (nextOf m s here r .state)
-    taking-goes-on b e =
-        let n = next-byte m s here r b e in
-        let steps : length s - taken ≡ suc (length s - (taken + 1)) = omega (arith, so-far .moves, n .1) in
-        record {
-          same =
-              so-far .same
-              ∙ ap (plus taken passed) (ap (λ (k : ℕ). takes k m s r here) steps ∙ takes-go (length s - (taken + 1)) here b e)
-              ∙ plus-plus taken passed (nextOf m s here r .taken) (nextOf m s here r .passed) _
-              ∙ rw (n .2);
-          moves = omega (arith, so-far .moves, n .0);
-          fits = omega (arith, so-far .moves, n .1);
-        }
-
--- a list of takes from a refused state is the refusal
+-- takes from a refused state are the refusal
 pub refused-at-once : (m : Reading) (s : List ℕ) (st : State) (r : Reader) (e : Refusal) → numberOf e ≡ refusalWith (m .flags) s st r
-    → refused (numberOf e) st ≡ takes (length s) m s r st
+    → refused (numberOf e) st ≡ repeated (length s) (λ here. nextOf m s here r) st
 unfolding nextOf
 refused-at-once m s st r e number =
     let seen = peek-refused m s st r e number in
     let next : nextOf m s st r ≡ refused (numberOf e) st = rw seen in
-    sym (takes-stop m s r (length s) st (ap (λ (o : Outcome). o .byte) next) ∙ next)
+    sym (repeated-stops (λ here. nextOf m s here r) (length s) st (ap (λ (o : Outcome). o .byte) next) ∙ next)

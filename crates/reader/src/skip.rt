@@ -1,7 +1,7 @@
-// The cursor that passes digit separators: peek and take. After lexical-util's skip.rs.
+// The cursor that passes digit separators: peek, take and block take. After lexical-util's skip.rs.
 ghost use mathlib.Core.Path.{_≡_};
 ghost use mathlib.Core.Bool.{cond, _&&_};
-ghost use Prim.Native.Nat.{_+_, _≤_, _<_, _^_};
+ghost use Prim.Native.Nat.{_+_, _-_, _≤_, _<_, _^_, min};
 ghost use lib.Dec.{eqb};
 ghost use lib.ListN.{length};
 ghost use Rattle.word.specs.Digit.{digitTable, isDigit};
@@ -9,9 +9,11 @@ ghost use Rattle.word.specs.Word.{digitSeparator, mantissaRadix};
 ghost use Rattle.reader.specs.Place.{isSeparator};
 ghost use Rattle.reader.specs.Reading.{syntaxOf, readingWith, readingOf, hasAnyFlag};
 ghost use Rattle.reader.specs.State.{countSum};
-ghost use Rattle.reader.specs.Answer.{lookOutcome, LookFits, outcomeOf, countOutcomeOf};
+ghost use Rattle.reader.specs.Answer.{lookOutcome, LookFits, outcomeOf, countOutcomeOf, blockOutcomeOf};
 ghost use Rattle.reader.specs.Calls.{peekOf, nextOf, nextAllOf, takenFrom, shownCount, currentCountOf, peeked, refusalWith};
+ghost use Rattle.reader.specs.Block.{blockFrom, takeNOf, takeNPart};
 use crate::passing::Syntax;
+use crate::passing::flags_of;
 use crate::passing::landing;
 use crate::passing::syntax_of;
 use crate::rule::Flags;
@@ -20,6 +22,7 @@ use crate::state::Reader;
 use crate::state::Refusal;
 use crate::state::State;
 use crate::state::admit;
+use crate::state::admit_block;
 use crate::state::admit_place;
 use crate::state::counted;
 use crate::state::counts_digits;
@@ -45,6 +48,24 @@ pub struct Told {
 
 pub struct Answer {
     pub told: Told,
+    pub state: State,
+}
+
+// What a block take answers: a block, which may be empty, or none.
+pub enum Block {
+    Taken,
+    None,
+    Refused(Refusal),
+}
+
+pub struct BlockTold {
+    pub block: Block,
+    pub taken: usize,
+    pub passed: usize,
+}
+
+pub struct BlockAnswer {
+    pub told: BlockTold,
     pub state: State,
 }
 
@@ -290,5 +311,67 @@ pub fn current_count(s: &[u8], state: State, reader: Reader) -> Count
             reader,
         )),
         Admission::Refused(refusal) => Count::Refused(refusal),
+    }
+}
+
+fn block_answered(block: Block, taken: usize, state: State) -> BlockAnswer
+    ensures { λ r. ⌜ r ≡ record { told = record { block = block; taken = taken; passed = 0 }; state = state } ⌝ }
+{
+    let told = BlockTold {
+        block,
+        taken,
+        passed: 0,
+    };
+    BlockAnswer { told, state }
+}
+
+// How many of n bytes there are from the cursor on. No sum of n and the cursor is formed, so any n will do.
+fn bytes_left(s: &[u8], cursor: usize, n: usize) -> usize
+    requires { ⌜ cursor ≤ length (now s) ⌝ }
+    ensures { λ r. ⌜ r ≡ min n (length (now (s .entry)) - cursor) ⌝ }
+{
+    let left = s.len() - cursor;
+    if n < left { n } else { left }
+}
+
+// The block of a state that is not refused.
+fn block_from(s: &[u8], state: State, flags: Flags, n: usize) -> BlockAnswer
+    requires { ⌜ state .cursor ≤ length (now s) ⌝ }
+    ensures { λ r. ⌜ blockOutcomeOf r ≡ blockFrom flags (now (s .entry)) state n ⌝ }
+{
+    if flags.internal | flags.leading | flags.trailing | flags.consecutive {
+        return block_answered(Block::None, 0, state);
+    }
+    let cursor = state.cursor;
+    let taken = bytes_left(s, cursor, n);
+    block_answered(Block::Taken, taken, moved(state, cursor + taken))
+}
+
+// Takes up to n bytes at once, by a reader without flags; one with any flag answers none and stays.
+pub fn take_n(s: &[u8], state: State, reader: Reader, n: usize) -> BlockAnswer
+    ensures { λ r. ⌜ blockOutcomeOf r ≡ takeNOf (readingOf (state .format) reader) (now (s .entry)) state reader n ⌝ }
+{
+    let admitted = admit_block(s, state, reader);
+    match admitted {
+        Admission::Admitted => block_from(s, state, flags_of(state.format, reader), n),
+        Admission::Refused(refusal) => block_answered(Block::Refused(refusal), 0, state),
+    }
+}
+
+// The part of the buffer that `take_n` takes, for the same arguments; empty for none or a refusal.
+pub fn take_n_part(s: &[u8], state: State, reader: Reader, n: usize) -> &[u8]
+    ensures { λ r. ⌜ now r ≡ takeNPart (readingOf (state .format) reader) (now (s .entry)) state reader n ⌝ }
+{
+    let answer = take_n(s, state, reader, n);
+    let told = answer.told;
+    let block = told.block;
+    match block {
+        Block::Taken => {
+            let start = state.cursor;
+            let end = answer.state.cursor;
+            &s[start..end]
+        }
+        Block::None => &s[0..0],
+        Block::Refused(refusal) => &s[0..0],
     }
 }

@@ -3,10 +3,12 @@ ghost use mathlib.Core.Path.{_≡_};
 ghost use mathlib.Core.Bool.{cond, _&&_};
 ghost use Rattle.reader.specs.Reading.{hasAnyFlag};
 ghost use Prim.Native.Nat.{_+_, _<_, _^_};
-ghost use lib.Dec.{leb};
+ghost use lib.Dec.{eqb, leb};
 ghost use Rattle.reader.specs.State.{freshOf, isCounted, countOf, countSum, movedTo, countedBy, withCount};
 ghost use Rattle.reader.specs.Answer.{numberOf, admissionNumber};
 ghost use Rattle.reader.specs.Calls.{consecutiveNumber, placeRefusal, refusalWith};
+ghost use Rattle.reader.specs.ZeroSkip.{skipRefusal};
+ghost use Rattle.reader.specs.Block.{blockRefusal};
 use crate::rule::Flags;
 use word::format_flags::Format;
 
@@ -224,4 +226,45 @@ pub(crate) fn admit(s: &[u8], state: State, flags: Flags, reader: Reader) -> Adm
             line(!alone, consecutive_refusal(reader), Admission::Admitted),
         ),
     )
+}
+
+fn is_counted(reader: Reader) -> bool
+    ensures { λ r. ⌜ r ≡ isCounted reader ⌝ }
+{
+    match reader {
+        Reader::Integer => true,
+        Reader::Fraction => true,
+        Reader::Exponent => true,
+        Reader::Special => false,
+    }
+}
+
+// The refusal of the first tests, else what the tests after them say.
+fn first_refusal(first: Admission, rest: Admission) -> Admission
+    ensures { λ r. ⌜ admissionNumber r ≡ cond (eqb (admissionNumber first) 0) (admissionNumber rest) (admissionNumber first) ⌝ }
+{
+    match first {
+        Admission::Admitted => rest,
+        Admission::Refused(refusal) => Admission::Refused(refusal),
+    }
+}
+
+// Tests 16, 17 and 18: those of a block take.
+pub(crate) fn admit_block(s: &[u8], state: State, reader: Reader) -> Admission
+    ensures { λ r. ⌜ admissionNumber r ≡ blockRefusal (now (s .entry)) state reader ⌝ }
+{
+    let special = Admission::Refused(Refusal::SpecialReader);
+    first_refusal(
+        admit_place(s, state),
+        line(is_counted(reader), special, Admission::Admitted),
+    )
+}
+
+// Tests 16, 17, 18, then 12 to 14: those of a zero skip.
+pub(crate) fn admit_skip(s: &[u8], state: State, flags: Flags, reader: Reader) -> Admission
+    ensures { λ r. ⌜ admissionNumber r ≡ skipRefusal flags (now (s .entry)) state reader ⌝ }
+{
+    let alone = flags.consecutive & !flags.internal & !flags.leading & !flags.trailing;
+    let consecutive = line(!alone, consecutive_refusal(reader), Admission::Admitted);
+    first_refusal(admit_block(s, state, reader), consecutive)
 }

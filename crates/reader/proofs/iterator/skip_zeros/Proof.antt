@@ -1,0 +1,26 @@
+-- `reader::iterator::skip_zeros` meets its contract: the table is that of the definition, and the word's syntax is read once.
+-- Assumes nothing.
+use mathlib.Core.Path.{_∙_, refl, ap}
+use Rattle.word.specs.Digit.{digitTable, digitValue}
+use Rattle.reader.specs.declared.passing.Syntax.{Syntax}
+use Rattle.reader.specs.Reading.{readingWith}
+use Rattle.reader.specs.ZeroSkip.{skipZerosOf}
+use borrow.Author.Needs.{needs}
+use Rattle.reader.proofs.iterator.skip_zeros.Statement.{statement}
+use Rattle.reader.proofs.iterator.skip_zeros.Tie as tie
+
+syntax-of-requires : tie.Need-syntax-of-requires
+syntax-of-requires c κs = search needs
+
+skip-zeros-in-requires : tie.Need-skip-zeros-in-requires
+unfolding digitTable digitValue
+skip-zeros-in-requires c κs = refl
+
+returns : tie.Need-returns
+returns c =
+    let x = c .before .before in
+    let a = x .before .before .args in
+    c .skip-zeros-in .ensures ∙ ap (λ (y : Syntax). skipZerosOf (readingWith y) (a .s .now) (a .state) (a .reader)) (x .syntax-of .ensures)
+
+pub skip-zeros-spec : {M : Type 1} → statement M
+skip-zeros-spec = tie.close (tie.spec syntax-of-requires skip-zeros-in-requires returns)
