@@ -4,5 +4,10 @@ pub mod Place
 pub mod Reading
 pub mod State
 pub mod Answer
+pub mod Repeat
 pub mod Calls
+pub mod ZeroSkip
+pub mod Block
+pub mod History
+pub mod ByteTally
 pub mod Plain

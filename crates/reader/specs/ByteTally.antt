@@ -1,0 +1,96 @@
+-- Demand 3, the byte tally: a single claim about a whole list of calls (documents 00 and 01, "Readers"). Assumes nothing.
+use mathlib.Core.Path.{_≡_}
+use Prim.Native.Nat.{ℕ, _+_, _<_, _≤_}
+use mathlib.Core.Bool.{Bool, true}
+use mathlib.Core.List.{List, [], _∷_, _++_}
+use lib.Dec.{eqb}
+use lib.ListN.{length, take, drop, replicate}
+use Rattle.word.specs.declared.format_flags.Format.{Format}
+use Rattle.reader.specs.declared.state.Reader.{Reader}
+use Rattle.reader.specs.declared.state.State.{State}
+use Rattle.reader.specs.Reading.{Reading, mayPass}
+use Rattle.reader.specs.State.{freshOf, countOf}
+use Rattle.reader.specs.History.{Call, peekBy, takeBy, readIfBy, zeroSkipBy, blockBy, Answered, answerTo, numberIn, takenIn, passedIn, returned, shownIn, Run, runFrom, runOf, totalOf, Step, stepsOf, joined, historyCount}
+
+-- A run of separators that a step passed is separators only. It began at the place whose number is how many bytes were joined
+-- before it: there the buffer has a separator and the reader's rule holds, first if its count of the history is 0 up to there,
+-- else later.
+pub record RunAllowed (m : Reader → Reading) (s : List ℕ) (e : Step) (earlier : List Step) : Type 0 where
+  pub separators : take (e .passed) (drop (length (joined m earlier)) s) ≡ replicate (e .passed) (m (e .reader) .separator)
+  pub rule : mayPass (m (e .reader)) s (eqb (historyCount m (e .reader) earlier) 0) (length (joined m earlier)) ≡ true
+
+abbrev pub RunsAllowed : (Reader → Reading) → List ℕ → List Step → Type 0
+RunsAllowed m s [] = Unit {0}
+RunsAllowed m s (e ∷ earlier) = RunsAllowed m s earlier × (0 < e .passed → RunAllowed m s e earlier)
+
+-- every call returned the word unchanged
+abbrev pub WordKept : Format → List Answered → Type 0
+WordKept f [] = Unit {0}
+WordKept f (a ∷ earlier) = WordKept f earlier × (returned a .format ≡ f)
+
+-- no call was refused by this number
+abbrev pub NeverRefusedBy : ℕ → List Answered → Type 0
+NeverRefusedBy number [] = Unit {0}
+NeverRefusedBy number (a ∷ earlier) = NeverRefusedBy number earlier × (numberIn a ≡ number → ⊥)
+
+-- The inserted peek: by the reader of the call, which is a take, a conditional read, or a zero skip that is not refused.
+abbrev pub readerOf : Call → Reader
+readerOf (peekBy r) = r
+readerOf (takeBy r) = r
+readerOf (readIfBy r set) = r
+readerOf (zeroSkipBy r) = r
+readerOf (blockBy r n) = r
+
+abbrev pub Preceded : (Format → Reader → Reading) → List ℕ → State → Call → Type 0
+Preceded m s st (peekBy r) = ⊥
+Preceded m s st (takeBy r) = Unit {0}
+Preceded m s st (readIfBy r set) = Unit {0}
+Preceded m s st (zeroSkipBy r) = numberIn (answerTo m s st (zeroSkipBy r)) ≡ 0
+Preceded m s st (blockBy r n) = ⊥
+
+abbrev pub peeked : (Format → Reader → Reading) → List ℕ → State → Call → Answered
+peeked m s st call = answerTo m s st (peekBy (readerOf call))
+
+-- What the call answers from the state that the peek returned, beside what it answers without the peek: the same byte or number of
+-- zeros, and the same state, so that the rest of the list goes on the same. The two passed counts add up to the one without.
+pub record PeekChangesNothing (m : Format → Reader → Reading) (s : List ℕ) (st : State) (call : Call) : Type 0 where
+  pub shown : shownIn (answerTo m s (returned (peeked m s st call)) call) ≡ shownIn (answerTo m s st call)
+  pub state : returned (answerTo m s (returned (peeked m s st call)) call) ≡ returned (answerTo m s st call)
+  pub rest :
+      (calls : List Call) →
+      runOf m s (runFrom (returned (answerTo m s (returned (peeked m s st call)) call))) calls
+      ≡ runOf m s (runFrom (returned (answerTo m s st call))) calls
+  pub passed :
+      passedIn (peeked m s st call) + passedIn (answerTo m s (returned (peeked m s st call)) call) ≡ passedIn (answerTo m s st call)
+
+-- where a list of calls has come to, from a fresh cursor with the word f
+abbrev pub runFresh : (Format → Reader → Reading) → List ℕ → Format → List Call → Run
+runFresh m s f calls = runOf m s (runFrom (freshOf f)) calls
+
+pub record ByteTally (m : Format → Reader → Reading) (s : List ℕ) (f : Format) (calls : List Call) : Type 0 where
+  -- the separators passed and the bytes taken, joined in the order of the calls, are the bytes before the cursor
+  pub bytes : joined (m f) (stepsOf (runFresh m s f calls .history)) ≡ take (runFresh m s f calls .state .cursor) s
+  -- which is within the buffer, so these are as many as its number says
+  pub inside : runFresh m s f calls .state .cursor ≤ length s
+  -- cursor = taken + passed, summed from the counts the calls returned
+  pub cursor :
+      runFresh m s f calls .state .cursor
+      ≡ totalOf takenIn (runFresh m s f calls .history) + totalOf passedIn (runFresh m s f calls .history)
+  -- each passed run is separators only and began where document 01 lets that reader pass
+  pub runs : RunsAllowed (m f) s (stepsOf (runFresh m s f calls .history))
+  -- each of the digit counts equals document 01's count of the history for its reader
+  pub counts : (r : Reader) → countOf (runFresh m s f calls .state) r ≡ historyCount (m f) r (stepsOf (runFresh m s f calls .history))
+  -- a peek put into the list just before a take, conditional read or unrefused zero skip by the same reader changes nothing
+  pub peeks :
+      (before : List Call) (call : Call) (after : List Call) →
+      calls ≡ before ++ (call ∷ after) →
+      Preceded m s (runFresh m s f before .state) call →
+      PeekChangesNothing m s (runFresh m s f before .state) call
+  -- nor does it change where the list comes to
+  pub inserted :
+      (before : List Call) (call : Call) (after : List Call) →
+      calls ≡ before ++ (call ∷ after) →
+      Preceded m s (runFresh m s f before .state) call →
+      runFresh m s f (before ++ (peekBy (readerOf call) ∷ call ∷ after)) .state ≡ runFresh m s f calls .state
+  -- every call returns the word unchanged
+  pub word : WordKept f (runFresh m s f calls .history)
