@@ -1,0 +1,66 @@
+-- Every call of demand 3 keeps the byte tally, over any reading: one law for each call, and one for them all. Assumes nothing.
+use mathlib.Core.Path.{_≡_, _∙_, refl, sym, ap}
+use mathlib.Core.Bool.{Bool, true, false, cond}
+use mathlib.Core.List.{List, [], _∷_}
+use mathlib.Core.Option.{Option, some, none}
+use Prim.Native.Nat.{ℕ, _+_, _≤_}
+use native.Mathlib.Omega.{arith}
+use lib.Dec.{eqb}
+use lib.ListN.{length}
+use Rattle.word.specs.declared.format_flags.Format.{Format}
+use Rattle.reader.specs.declared.state.Reader.{Reader}
+use Rattle.reader.specs.declared.state.State.{State}
+use Rattle.reader.specs.Reading.{Reading}
+use Rattle.reader.specs.Answer.{Outcome, SkipOutcome}
+use Rattle.reader.specs.Calls.{peekOf, nextOf, readIfOf}
+use Rattle.reader.specs.Repeat.{untilNone, repeated}
+use Rattle.reader.specs.ZeroSkip.{zeroReadOf, zeroReadsOf, skipRefusal, skipped, refusedSkip, skipZerosOf}
+use Rattle.reader.specs.Block.{takeNOf, takeNPart}
+use Rattle.reader.specs.History.{Call, peekBy, takeBy, readIfBy, zeroSkipBy, blockBy, Answered, skipAnswered, readsMade, answerBy, takenIn, passedIn, returned, aPeek, aTake, aRead, aBlock, Step, stepOf, withSteps}
+use Rattle.reader.proofs.Peeking.{peeks}
+use Rattle.reader.proofs.Steps.{Moves, peek-step, take-step, read-step, block-step, take-counts, read-counts, block-counts}
+use Rattle.reader.proofs.Tallies.{Tallied, tallied-on, skipping}
+
+-- a zero skip makes its reads, or it is refused and makes none
+pub skip-cases :
+    (m : Reading) (s : List ℕ) (st : State) (r : Reader) (P : SkipOutcome → List Outcome → Type 0)
+    → P (skipped (repeated (length s) (zeroReadOf m s r) st)) (zeroReadsOf m s st r)
+    → P (refusedSkip (skipRefusal (m .flags) s st r) st) []
+    → P (skipZerosOf m s st r) (readsMade m s st r)
+unfolding skipZerosOf
+skip-cases m s st r P reads refuses = go (eqb (skipRefusal (m .flags) s st r) 0) refl where
+  go : (t : Bool) → eqb (skipRefusal (m .flags) s st r) 0 ≡ t → P (skipZerosOf m s st r) (readsMade m s st r)
+  go true t = rw t reads
+  go false t = rw (t, t) refuses
+
+module _ (m : Reader → Reading) (s : List ℕ) (f : Format) (st : State) (steps : List Step) (so-far : Tallied m s f st steps) where
+  -- what an answer leaves: the tally with its steps, and a cursor moved by its own counts
+  pub record Answering (a : Answered) : Type 0 where
+    pub tallied : Tallied m s f (returned a) (withSteps a steps)
+    pub cursor : returned a .cursor ≡ st .cursor + takenIn a + passedIn a
+
+  -- of an answer that is one step
+  one-step : (a : Answered) (e : Step) → Moves m s st e (returned a) → withSteps a steps ≡ e ∷ steps
+      → takenIn a ≡ length (e .bytes) → passedIn a ≡ e .passed → Answering a
+  one-step a e moves step taken passed =
+      record {
+        tallied = rw step (tallied-on m s f st steps so-far e (returned a) moves);
+        cursor = omega (arith, moves .cursor, taken, passed);
+      }
+
+  skip-answers : (r : Reader) → Answering (skipAnswered r (skipZerosOf (m r) s st r) (readsMade (m r) s st r))
+  unfolding zeroReadsOf
+  skip-answers r =
+      let skips = skipping m s f r (length s) st steps so-far in
+      skip-cases (m r) s st r
+      (λ o reads. Answering (skipAnswered r o reads))
+      (record { tallied = skips .tallied; cursor = skips .cursor })
+      (record { tallied = so-far; cursor = omega arith })
+
+  pub answering : (call : Call) → Answering (answerBy m s st call)
+  answering (peekBy r) = one-step (answerBy m s st (peekBy r)) _ (peek-step m s st r) refl (peeks (m r) s st r .none-taken) refl
+  answering (takeBy r) = one-step (answerBy m s st (takeBy r)) _ (take-step m s st r) refl (take-counts m s st r) refl
+  answering (readIfBy r set) =
+      one-step (answerBy m s st (readIfBy r set)) _ (read-step m s st r set) refl (read-counts m s st r set) refl
+  answering (zeroSkipBy r) = skip-answers r
+  answering (blockBy r n) = one-step (answerBy m s st (blockBy r n)) _ (block-step m s st r n) refl (block-counts m s st r n) refl

@@ -1,0 +1,154 @@
+-- Demand 3 over any reading that settles: the byte tally of every list of calls. Assumes nothing.
+use mathlib.Core.Path.{_≡_, _∙_, refl, sym, ap, subst}
+use mathlib.Core.List.{List, [], _∷_, _++_}
+use Prim.Native.Nat.{ℕ, _+_, _≤_}
+use native.Mathlib.Nat.{add-zero}
+use native.Mathlib.Omega.{arith}
+use lib.ListN.{length}
+use Rattle.word.specs.declared.format_flags.Format.{Format}
+use Rattle.reader.specs.declared.state.Reader.{Reader}
+use Rattle.reader.specs.declared.state.Reader.the-variants.{Integer, Fraction, Exponent, Special}
+use Rattle.reader.specs.declared.state.State.{State}
+use Rattle.reader.specs.Reading.{Reading}
+use Rattle.reader.specs.State.{freshOf, countOf, movedTo}
+use Rattle.reader.specs.Answer.{Outcome}
+use Rattle.reader.specs.Calls.{peekOf, nextOf, readIfOf}
+use Rattle.reader.specs.History.{Call, peekBy, takeBy, readIfBy, zeroSkipBy, blockBy, Answered, takeAnswered, readAnswered, answerBy, answerTo, numberIn, takenIn, passedIn, returned, shownIn, Run, runFrom, withAnswer, runOf, totalOf, stepsOf}
+use Rattle.reader.specs.ByteTally.{WordKept, readerOf, Preceded, peeked, PeekChangesNothing, runFresh, ByteTally}
+use Rattle.reader.proofs.Settling.{Settles}
+use Rattle.reader.proofs.Peeking.{peeks}
+use Rattle.reader.proofs.Insertion.{stilled, take-after-peek, read-after-peek, take-passes, read-passes, zeros-same, state-same, passed-adds, skip-clear}
+use Rattle.reader.proofs.Tallies.{Tallied}
+use Rattle.reader.proofs.Answering.{Answering, answering}
+
+-- LISTS OF CALLS
+
+module _ (m : Format → Reader → Reading) (s : List ℕ) (f : Format) where
+  -- what holds wherever a list has come to
+  pub record Kept (w : Run) : Type 0 where
+    pub tallied : Tallied (m f) s f (w .state) (stepsOf (w .history))
+    pub cursor : w .state .cursor ≡ totalOf takenIn (w .history) + totalOf passedIn (w .history)
+    pub word : WordKept f (w .history)
+
+  pub kept-fresh : Kept (runFrom (freshOf f))
+  unfolding countOf
+  kept-fresh =
+      record {
+        tallied = record { bytes = refl; runs = tt; counts = nothing-counted; inside = omega arith; sums = omega arith; word = refl };
+        cursor = refl;
+        word = tt;
+      }
+    where
+      nothing-counted : (r : Reader) → countOf (freshOf f) r ≡ 0
+      nothing-counted Integer = refl
+      nothing-counted Fraction = refl
+      nothing-counted Exponent = refl
+      nothing-counted Special = refl
+
+  -- the state's word is that of the list
+  pub own-word : (w : Run) → Kept w → (call : Call) → answerTo m s (w .state) call ≡ answerBy (m f) s (w .state) call
+  own-word w so-far call = ap (λ (g : Format). answerBy (m g) s (w .state) call) (so-far .tallied .word)
+
+  pub kept-on : (w : Run) → Kept w → (call : Call) → Kept (withAnswer w (answerTo m s (w .state) call))
+  kept-on w so-far call =
+      let a = answerBy (m f) s (w .state) call in
+      let answer = answering (m f) s f (w .state) (stepsOf (w .history)) (so-far .tallied) call in
+      let kept : Kept (withAnswer w a) =
+      record {
+        tallied = answer .tallied;
+        cursor = omega (arith, answer .cursor, so-far .cursor);
+        word = (so-far .word, answer .tallied .word);
+      } in
+      subst (λ (b : Answered). Kept (withAnswer w b)) (sym (own-word w so-far call)) kept
+
+  pub kept-all : (calls : List Call) (w : Run) → Kept w → Kept (runOf m s w calls)
+  kept-all [] w so-far = so-far
+  kept-all (call ∷ rest) w so-far = kept-all rest (withAnswer w (answerTo m s (w .state) call)) (kept-on w so-far call)
+
+  pub kept : (calls : List Call) → Kept (runFresh m s f calls)
+  kept calls = kept-all calls (runFrom (freshOf f)) kept-fresh
+
+-- THE INSERTED PEEK
+
+module _ (m : Format → Reader → Reading) (s : List ℕ) (st : State) (law : (r : Reader) → Settles (m (st .format) r)) where
+  -- a peek returns the word, so the call after it is by the same reading
+  word-seen : (call : Call) → returned (peeked m s st call) .format ≡ st .format
+  unfolding movedTo
+  word-seen call = rw (peeks (m (st .format) (readerOf call)) s st (readerOf call) .moves)
+
+  after-peek : (call : Call)
+      → answerTo m s (returned (peeked m s st call)) call ≡ answerBy (m (st .format)) s (returned (peeked m s st call)) call
+  after-peek call = ap (λ (g : Format). answerBy (m g) s (returned (peeked m s st call)) call) (word-seen call)
+
+  -- from an answer after the peek that shows the same and returns the same state
+  changes-nothing : (call : Call) (a : Answered) → answerBy (m (st .format)) s (returned (peeked m s st call)) call ≡ a
+      → shownIn a ≡ shownIn (answerTo m s st call) → returned a ≡ returned (answerTo m s st call)
+      → passedIn (peeked m s st call) + passedIn a ≡ passedIn (answerTo m s st call)
+      → PeekChangesNothing m s st call
+  changes-nothing call a is shown state passed =
+      let same = after-peek call ∙ is in
+      let to = ap returned same ∙ state in
+      record {
+        shown = ap shownIn same ∙ shown;
+        state = to;
+        rest = λ calls. ap (λ (t : State). runOf m s (runFrom t) calls) to;
+        passed = ap (λ (b : Answered). passedIn (peeked m s st call) + passedIn b) same ∙ passed;
+      }
+
+  pub peek-changes-nothing : (call : Call) → Preceded m s st call → PeekChangesNothing m s st call
+  peek-changes-nothing (peekBy r) never = absurd never
+  peek-changes-nothing (takeBy r) allowed =
+      let by = m (st .format) r in
+      changes-nothing (takeBy r) (takeAnswered r (stilled (nextOf by s st r))) (ap (takeAnswered r) (take-after-peek by (law r) s st r)) refl refl
+      (rw (take-passes by (law r) s st r) (add-zero (peekOf by s st r .passed)))
+  peek-changes-nothing (readIfBy r set) allowed =
+      let by = m (st .format) r in
+      changes-nothing (readIfBy r set) (readAnswered r (stilled (readIfOf by s st r set))) (ap (readAnswered r) (read-after-peek by (law r) s st r set)) refl refl
+      (rw (read-passes by (law r) s st r set) (add-zero (peekOf by s st r .passed)))
+  peek-changes-nothing (zeroSkipBy r) clear =
+      let by = m (st .format) r in
+      let open-to = skip-clear by (law r) s st r clear in
+      changes-nothing (zeroSkipBy r) _ refl
+      (zeros-same by (law r) s st r open-to) (state-same by (law r) s st r open-to) (passed-adds by (law r) s st r open-to)
+  peek-changes-nothing (blockBy r n) never = absurd never
+
+-- a list of calls goes on from where its first part has come to, and from there by the state alone
+module _ (m : Format → Reader → Reading) (s : List ℕ) where
+  pub run-append : (a b : List Call) (w : Run) → runOf m s w (a ++ b) ≡ runOf m s (runOf m s w a) b
+  run-append [] b w = refl
+  run-append (call ∷ a) b w = run-append a b (withAnswer w (answerTo m s (w .state) call))
+
+  run-state : (calls : List Call) (v w : Run) → v .state ≡ w .state → runOf m s v calls .state ≡ runOf m s w calls .state
+  run-state [] v w same = same
+  run-state (call ∷ rest) v w same =
+      run-state rest (withAnswer v (answerTo m s (v .state) call)) (withAnswer w (answerTo m s (w .state) call))
+      (ap (λ (t : State). returned (answerTo m s t call)) same)
+
+module _ (m : Format → Reader → Reading) (s : List ℕ) (f : Format) (law : (r : Reader) → Settles (m f r)) where
+  -- the word of the list is that of the state before the call, so its readings settle there
+  peek-in-list : (before : List Call) (call : Call) → Preceded m s (runFresh m s f before .state) call
+      → PeekChangesNothing m s (runFresh m s f before .state) call
+  peek-in-list before call =
+      peek-changes-nothing m s (runFresh m s f before .state)
+      (λ r. subst (λ (g : Format). Settles (m g r)) (sym (kept m s f before .tallied .word)) (law r)) call
+
+  same-end : (before : List Call) (call : Call) (after : List Call) → Preceded m s (runFresh m s f before .state) call
+      → runFresh m s f (before ++ (peekBy (readerOf call) ∷ call ∷ after)) .state ≡ runFresh m s f (before ++ (call ∷ after)) .state
+  same-end before call after allowed =
+      rw (run-append m s before (peekBy (readerOf call) ∷ call ∷ after) (runFrom (freshOf f)), run-append m s before (call ∷ after) (runFrom (freshOf f)))
+      (run-state m s after _ _ (peek-in-list before call allowed .state))
+
+  pub byte-tally : (calls : List Call) → ByteTally m s f calls
+  byte-tally calls =
+      let all = kept m s f calls in
+      record {
+        bytes = all .tallied .bytes;
+        inside = all .tallied .inside;
+        cursor = all .cursor;
+        runs = all .tallied .runs;
+        counts = all .tallied .counts;
+        peeks = λ before call after e. peek-in-list before call;
+        inserted = λ before call after e allowed.
+            same-end before call after allowed ∙ ap (λ (l : List Call). runFresh m s f l .state) (sym e);
+        word = all .word;
+      }

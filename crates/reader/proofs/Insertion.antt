@@ -1,0 +1,173 @@
+-- A peek put in before a call by the same reader, over any reading that settles: the call answers as without it, only that the peek
+-- has passed what the call would have passed first. Assumes nothing.
+use mathlib.Core.Path.{_≡_, _∙_, refl, sym, ap}
+use mathlib.Core.Bool.{Bool, true, false, cond}
+use mathlib.Core.List.{List, [], _∷_}
+use mathlib.Core.Option.{Option, some, none}
+use Prim.Native.Nat.{ℕ, zero, suc, _+_, _≤_}
+use native.Mathlib.Nat.{add-zero}
+use native.Mathlib.Omega.{arith}
+use borrow.Author.Tests.{eqb-true}
+use lib.Dec.{eqb}
+use lib.ListN.{length}
+use Rattle.reader.specs.declared.state.Reader.{Reader}
+use Rattle.reader.specs.declared.state.Reader.the-variants.{Integer, Fraction, Exponent, Special}
+use Rattle.reader.specs.declared.state.State.{State}
+use Rattle.reader.specs.Reading.{Reading, passedAt}
+use Rattle.reader.specs.State.{countOf, countSum, movedTo}
+use Rattle.reader.specs.Answer.{Outcome, SkipOutcome}
+use Rattle.reader.specs.Calls.{refusalOf, refusalWith, refused, seenPast, peeked, peekOf, takeByte, nextOf, readByteIf, readIfOf}
+use Rattle.reader.specs.Repeat.{plus, summed, untilNone, repeated}
+use Rattle.reader.specs.ZeroSkip.{isZero, raised, zeroReadOf, skipRefusal, skipped, skipZerosOf}
+use Rattle.reader.proofs.Admission.{within, skip-within, still-admitted, still-skipping, peek-admitted}
+use Rattle.reader.proofs.Takes.{passed-fits}
+use Rattle.reader.proofs.Zeros.{skip-admitted}
+use Rattle.reader.proofs.Settling.{Settles, passes-no-more}
+use Rattle.reader.proofs.Peeking.{count-moved, turned-away, peek-inside, peek-counts}
+
+-- the same outcome with nothing passed
+abbrev pub stilled : Outcome → Outcome
+stilled o = record { refusal = o .refusal; byte = o .byte; taken = o .taken; passed = 0; state = o .state }
+
+-- the calls after what was seen look at it alone
+module _ (m : Reading) (r : Reader) (o : Outcome) where
+  take-stilled : (b : Option ℕ) → takeByte m r (stilled o) b ≡ stilled (takeByte m r o b)
+  take-stilled none = refl
+  take-stilled (some b) = refl
+
+  pub take-passed : (b : Option ℕ) → takeByte m r o b .passed ≡ o .passed
+  take-passed none = refl
+  take-passed (some b) = refl
+
+module _ (set : ℕ → Bool) (o : Outcome) where
+  read-stilled : (b : Option ℕ) → readByteIf set (stilled o) b ≡ stilled (readByteIf set o b)
+  read-stilled none = refl
+  read-stilled (some b) = go (set b) refl where
+    go : (t : Bool) → set b ≡ t → readByteIf set (stilled o) (some b) ≡ stilled (readByteIf set o (some b))
+    go true e = rw e
+    go false e = rw e
+
+  pub read-passed : (b : Option ℕ) → readByteIf set o b .passed ≡ o .passed
+  read-passed none = refl
+  read-passed (some b) = go (set b) refl where
+    go : (t : Bool) → set b ≡ t → readByteIf set o (some b) .passed ≡ o .passed
+    go true e = rw e
+    go false e = rw e
+
+raised-stilled : (r : Reader) (o : Outcome) (b : Option ℕ) → raised r (stilled o) b ≡ stilled (raised r o b)
+raised-stilled r o none = refl
+raised-stilled r o (some b) = refl
+
+pub raised-passed : (r : Reader) (o : Outcome) (b : Option ℕ) → raised r o b .passed ≡ o .passed
+raised-passed r o none = refl
+raised-passed r o (some b) = refl
+
+-- calls told as one, from a first one that passed nothing
+module _ (o : Outcome) where
+  summed-taken : (rest : List Outcome) → summed (stilled o) rest .taken ≡ summed o rest .taken
+  summed-taken [] = refl
+  summed-taken (next ∷ rest) = refl
+
+  summed-state : (rest : List Outcome) → summed (stilled o) rest .state ≡ summed o rest .state
+  summed-state [] = refl
+  summed-state (next ∷ rest) = refl
+
+  summed-passed : (rest : List Outcome) → o .passed + summed (stilled o) rest .passed ≡ summed o rest .passed
+  summed-passed [] = omega arith
+  summed-passed (next ∷ rest) = omega arith
+
+  onward-same : (n : ℕ) (call : State → Outcome) → untilNone n call (stilled o) ≡ untilNone n call o
+  unfolding untilNone
+  onward-same zero call = refl
+  onward-same (suc n) call = refl
+
+module _ (m : Reading) (law : Settles m) (s : List ℕ) (st : State) (r : Reader) where
+  -- a second peek sees what the first one saw, and passes nothing
+  seen-again : refusalOf m s st r ≡ 0 → peekOf m s (peeked m s st r .state) r ≡ stilled (peeked m s st r)
+  unfolding peeked movedTo
+  seen-again clear =
+      let w = within (m .flags) s st r clear in
+      let k = passedAt m s (eqb (countOf st r) 0) (st .cursor) in
+      let here = movedTo st (st .cursor + k) in
+      let inside : here .cursor ≤ length s = passed-fits m s (eqb (countOf st r) 0) (st .cursor) (w .0) in
+      let counts : countSum here ≤ here .cursor = omega (arith, w .1) in
+      peek-admitted m s here r (still-admitted (m .flags) s st here r inside counts clear)
+      ∙ rw (count-moved st (st .cursor + k) r, passes-no-more m law s (eqb (countOf st r) 0) (st .cursor), add-zero)
+
+  pub peek-twice : peekOf m s (peekOf m s st r .state) r ≡ stilled (peekOf m s st r)
+  peek-twice = go (eqb (refusalOf m s st r) 0) refl where
+    go : (t : Bool) → eqb (refusalOf m s st r) 0 ≡ t → peekOf m s (peekOf m s st r .state) r ≡ stilled (peekOf m s st r)
+    go true t =
+        let clear = eqb-true (refusalOf m s st r) 0 t in
+        let seen = peek-admitted m s st r clear in
+        ap (λ (o : Outcome). peekOf m s (o .state) r) seen ∙ seen-again clear ∙ sym (ap stilled seen)
+    go false t =
+        let seen = turned-away m s st r t in
+        ap (λ (o : Outcome). peekOf m s (o .state) r) seen ∙ seen ∙ sym (ap stilled seen)
+
+  pub take-after-peek : nextOf m s (peekOf m s st r .state) r ≡ stilled (nextOf m s st r)
+  unfolding nextOf
+  take-after-peek =
+      ap (λ (o : Outcome). takeByte m r o (o .byte)) peek-twice ∙ take-stilled m r (peekOf m s st r) (peekOf m s st r .byte)
+
+  pub read-after-peek : (set : ℕ → Bool) → readIfOf m s (peekOf m s st r .state) r set ≡ stilled (readIfOf m s st r set)
+  unfolding readIfOf
+  read-after-peek set =
+      ap (λ (o : Outcome). readByteIf set o (o .byte)) peek-twice ∙ read-stilled set (peekOf m s st r) (peekOf m s st r .byte)
+
+  zero-after-peek : zeroReadOf m s r (peekOf m s st r .state) ≡ stilled (zeroReadOf m s r st)
+  unfolding zeroReadOf
+  zero-after-peek =
+      ap (λ (o : Outcome). raised r o (o .byte)) (read-after-peek isZero)
+      ∙ raised-stilled r (readIfOf m s st r isZero) (readIfOf m s st r isZero .byte)
+
+  pub take-passes : nextOf m s st r .passed ≡ peekOf m s st r .passed
+  unfolding nextOf
+  take-passes = take-passed m r (peekOf m s st r) (peekOf m s st r .byte)
+
+  pub read-passes : (set : ℕ → Bool) → readIfOf m s st r set .passed ≡ peekOf m s st r .passed
+  unfolding readIfOf
+  read-passes set = read-passed set (peekOf m s st r) (peekOf m s st r .byte)
+
+  zero-passes : zeroReadOf m s r st .passed ≡ peekOf m s st r .passed
+  unfolding zeroReadOf
+  zero-passes = raised-passed r (readIfOf m s st r isZero) (readIfOf m s st r isZero .byte) ∙ read-passes isZero
+
+  -- the reads of a zero skip after a peek
+  zeros-after-peek : repeated (length s) (zeroReadOf m s r) (peekOf m s st r .state)
+      ≡ summed (stilled (zeroReadOf m s r st)) (untilNone (length s) (zeroReadOf m s r) (zeroReadOf m s r st))
+  zeros-after-peek =
+      ap (λ (o : Outcome). summed o (untilNone (length s) (zeroReadOf m s r) o)) zero-after-peek
+      ∙ ap (summed (stilled (zeroReadOf m s r st))) (onward-same (zeroReadOf m s r st) (length s) (zeroReadOf m s r))
+
+  -- a zero skip that answers 0 for a number is not refused
+  pub skip-clear : skipZerosOf m s st r .refusal ≡ 0 → skipRefusal (m .flags) s st r ≡ 0
+  unfolding skipZerosOf
+  skip-clear e = go (eqb (skipRefusal (m .flags) s st r) 0) refl e where
+    go : (t : Bool) → eqb (skipRefusal (m .flags) s st r) 0 ≡ t → skipZerosOf m s st r .refusal ≡ 0 → skipRefusal (m .flags) s st r ≡ 0
+    go true t h = eqb-true (skipRefusal (m .flags) s st r) 0 t
+    go false t h = rw t at h
+
+  -- so a zero skip that is not refused takes as many zeros, and returns the same state
+  module _ (clear : skipRefusal (m .flags) s st r ≡ 0) where
+    skips : skipZerosOf m s st r ≡ skipped (repeated (length s) (zeroReadOf m s r) st)
+    skips = sym (skip-admitted m s st r clear)
+
+    skips-after-peek : skipZerosOf m s (peekOf m s st r .state) r
+        ≡ skipped (summed (stilled (zeroReadOf m s r st)) (untilNone (length s) (zeroReadOf m s r) (zeroReadOf m s r st)))
+    unfolding skipZerosOf
+    skips-after-peek =
+        let w = skip-within (m .flags) s st r clear in
+        let here = peekOf m s st r .state in
+        rw (still-skipping (m .flags) s st here r (peek-inside m s st r (w .0)) (peek-counts m s st r (w .1)) clear) (ap skipped zeros-after-peek)
+
+    pub zeros-same : skipZerosOf m s (peekOf m s st r .state) r .zeros ≡ skipZerosOf m s st r .zeros
+    zeros-same = rw (skips-after-peek, skips, summed-taken (zeroReadOf m s r st) (untilNone (length s) (zeroReadOf m s r) (zeroReadOf m s r st)))
+
+    pub state-same : skipZerosOf m s (peekOf m s st r .state) r .state ≡ skipZerosOf m s st r .state
+    state-same = rw (skips-after-peek, skips) (summed-state (zeroReadOf m s r st) (untilNone (length s) (zeroReadOf m s r) (zeroReadOf m s r st)))
+
+    pub passed-adds : peekOf m s st r .passed + skipZerosOf m s (peekOf m s st r .state) r .passed ≡ skipZerosOf m s st r .passed
+    passed-adds =
+        rw (skips-after-peek, skips, ← zero-passes)
+        (summed-passed (zeroReadOf m s r st) (untilNone (length s) (zeroReadOf m s r) (zeroReadOf m s r st)))
