@@ -5,9 +5,9 @@
  *
  * A reader call takes the buffer s of len bytes, which may be empty but not null, and places that do not overlap each other or s.
  * reader is 0 for the integer reader, 1 fraction, 2 exponent, 3 special. The state comes and goes in *cursor, *integer, *fraction
- * and *exponent. Returned is 0, or 16, 17 or 12 to 14 where the call is refused, or 19 for another reader. *has_byte is 1 with the
- * byte in *byte, or 0 with *byte left as it was; *taken and *passed count bytes taken and separators passed. A refused call leaves
- * the state and *byte, and writes 0 to the other three.
+ * and *exponent. Returned is 0, or 16, 17 or 12 to 14 where the call is refused, or 19 for another reader; a zero skip and a block
+ * take have no special reader and answer 18 for it. *has_byte is 1 with the byte in *byte, or 0 with *byte left as it was; *taken
+ * and *passed count bytes taken and separators passed. A refused call leaves the state and *byte, and writes 0 to the other three.
  */
 #ifndef PAWHETINO_H
 #define PAWHETINO_H
@@ -69,6 +69,28 @@ uint32_t pawhetino_read_if_value_cased(
     size_t *cursor, size_t *integer, size_t *fraction, size_t *exponent,
     uint8_t *has_byte, uint8_t *byte, size_t *taken, size_t *passed,
     uint8_t value);
+
+/* Takes the zeros under the cursor, each of which is counted, until a read of one fails. *zeros is how many; *taken and *passed are
+ * the sums of its reads, the failed one included. Where the call is refused *zeros stays as it was. */
+uint32_t pawhetino_skip_zeros(
+    const uint8_t *s, size_t len, uint64_t lo, uint64_t hi, uint8_t reader,
+    size_t *cursor, size_t *integer, size_t *fraction, size_t *exponent,
+    size_t *zeros, size_t *taken, size_t *passed);
+
+/* Takes up to n bytes at once, uncounted, by a reader without flags; one with any flag answers no block and stays. *has_block is 1
+ * where a block was taken, which may be empty, and 0 for none and for a refusal. *passed is always 0. */
+uint32_t pawhetino_take_n(
+    const uint8_t *s, size_t len, uint64_t lo, uint64_t hi, uint8_t reader,
+    size_t *cursor, size_t *integer, size_t *fraction, size_t *exponent,
+    uint8_t *has_block, size_t *taken, size_t *passed,
+    size_t n);
+
+/* Which part of s that block is: s[*start] to s[*start + *length - 1]. Both are 0 for none and for a refusal. Returns what
+ * pawhetino_take_n returns. */
+uint32_t pawhetino_take_n_part(
+    const uint8_t *s, size_t len, uint64_t lo, uint64_t hi, uint8_t reader,
+    size_t cursor, size_t integer, size_t fraction, size_t exponent,
+    size_t *start, size_t *length, size_t n);
 
 /* How many digits the reader has counted, as lexical-util shows it. Where the call is refused *count stays as it was. */
 uint32_t pawhetino_current_count(

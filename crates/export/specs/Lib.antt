@@ -1,1 +1,4 @@
 pub mod Reply
+pub mod Numbers
+pub mod Zeros
+pub mod Block

@@ -86,33 +86,29 @@ callOf (call.ReadIf a b c d) s st r =
     readIfOf (readingOf (st .format) r) s st r (member (record { bits = a ∷ b ∷ c ∷ d ∷ [] }))
 callOf (call.ReadIfValueCased value) s st r = readIfOf (readingOf (st .format) r) s st r (λ b. eqb b value)
 
--- A call by the reader that a byte names. A byte that names none is refused with 19, whatever else is wrong.
-abbrev pub byReader : Option Reader → State → (Reader → Outcome) → Outcome
-byReader none st outcome = refused 19 st
-byReader (some r) st outcome = outcome r
+-- What is answered by the reader that a byte names. A byte that names none is refused with 19, whatever else is wrong.
+abbrev pub byReader : {A : Type 0} → Option Reader → A → (Reader → A) → A
+byReader none refusal answer = refusal
+byReader (some r) refusal answer = answer r
 
 unfoldable pub calledBy : ℕ → Call → List ℕ → State → Outcome
-calledBy n asked s st = byReader (readerOf n) st (callOf asked s st)
+calledBy n asked s st = byReader (readerOf n) (refused 19 st) (callOf asked s st)
 
--- the same of a plain call, whose outcome does not depend on the reader
-abbrev pub plainByReader : Option Reader → ℕ → PlainOutcome → PlainOutcome
-plainByReader none at outcome = record { refusal = 19; byte = none; taken = 0; passed = 0; cursor = at }
-plainByReader (some r) at outcome = outcome
-
+-- a plain call, whose outcome does not depend on the reader
 unfoldable pub plainCallOf : PlainCall → List ℕ → ℕ → PlainOutcome
 plainCallOf plain.Peek s at = plainPeekOf s at
 plainCallOf plain.Next s at = plainNextOf s at
 
+abbrev pub plainRefused : ℕ → ℕ → PlainOutcome
+plainRefused number at = record { refusal = number; byte = none; taken = 0; passed = 0; cursor = at }
+
 unfoldable pub plainCalledBy : ℕ → PlainCall → List ℕ → ℕ → PlainOutcome
-plainCalledBy n asked s at = plainByReader (readerOf n) at (plainCallOf asked s at)
+plainCalledBy n asked s at = byReader (readerOf n) (plainRefused 19 at) (λ r. plainCallOf asked s at)
 
--- and of the count that is shown
-abbrev pub countByReader : Option Reader → (Reader → CountOutcome) → CountOutcome
-countByReader none outcome = record { refusal = 19; count = none }
-countByReader (some r) outcome = outcome r
-
+-- the count that is shown
 unfoldable pub countedFor : ℕ → List ℕ → State → CountOutcome
-countedFor n s st = countByReader (readerOf n) (λ r. currentCountOf (readingOf (st .format) r) s st r)
+countedFor n s st =
+    byReader (readerOf n) (record { refusal = 19; count = none }) (λ r. currentCountOf (readingOf (st .format) r) s st r)
 
 -- a count as it is written where its place has `old`
 abbrev pub countWritten : ℕ → CountOutcome → CountReply

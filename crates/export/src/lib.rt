@@ -10,11 +10,16 @@ ghost use Rattle.reader.specs.Place.{isSeparator};
 ghost use Rattle.export.specs.declared.reply.Call.{Call};
 ghost use Rattle.export.specs.declared.reply.PlainCall.{PlainCall};
 ghost use Rattle.export.specs.Reply.{stateOf, calledBy, plainCalledBy, written, plainWritten, held, plainHeld, countedFor, countWritten};
+ghost use Rattle.export.specs.Zeros.{skipWritten, skippedBy, skipHeld};
+ghost use Rattle.export.specs.Block.{blockWritten, partWritten, blockTakenBy, blockHeld, partHeld};
 use crate::reply::Call;
 use crate::reply::PlainCall;
 use word::format_flags::Format;
 
+pub mod block;
+pub mod numbers;
 pub mod reply;
+pub mod zeros;
 
 // The full check of a word: 0 where it is accepted, else the first line that fails, 1 to 14.
 #[no_mangle]
@@ -267,6 +272,97 @@ pub extern "C" fn pawhetino_read_if_value_cased(
         taken,
         passed,
     )
+}
+
+// Takes the zeros under the cursor, each of which is counted, until a read of one fails. Taken and passed are the sums of its
+// reads; a refusal leaves the number of zeros as it was.
+#[no_mangle]
+pub extern "C" fn pawhetino_skip_zeros(
+    s: &[u8],
+    lo: u64,
+    hi: u64,
+    reader: u8,
+    cursor: &mut usize,
+    integer: &mut usize,
+    fraction: &mut usize,
+    exponent: &mut usize,
+    zeros: &mut usize,
+    taken: &mut usize,
+    passed: &mut usize,
+) -> u32
+    ensures { λ r. ⌜ skipHeld r (now (cursor .exit)) (now (integer .exit)) (now (fraction .exit)) (now (exponent .exit)) (now (zeros .exit)) (now (taken .exit)) (now (passed .exit)) ≡ skipWritten (now (zeros .entry)) (skippedBy reader (now (s .entry)) (stateOf lo hi (now (cursor .entry)) (now (integer .entry)) (now (fraction .entry)) (now (exponent .entry)))) ⌝ }
+{
+    zeros::run(
+        s,
+        lo,
+        hi,
+        reader,
+        cursor,
+        integer,
+        fraction,
+        exponent,
+        zeros,
+        taken,
+        passed,
+    )
+}
+
+// Takes up to n bytes at once, by a reader without flags; one with any flag answers no block and stays.
+#[no_mangle]
+pub extern "C" fn pawhetino_take_n(
+    s: &[u8],
+    lo: u64,
+    hi: u64,
+    reader: u8,
+    cursor: &mut usize,
+    integer: &mut usize,
+    fraction: &mut usize,
+    exponent: &mut usize,
+    found: &mut u8,
+    taken: &mut usize,
+    passed: &mut usize,
+    n: usize,
+) -> u32
+    ensures { λ r. ⌜ blockHeld r (now (cursor .exit)) (now (integer .exit)) (now (fraction .exit)) (now (exponent .exit)) (now (found .exit)) (now (taken .exit)) (now (passed .exit)) ≡ blockWritten (blockTakenBy reader (now (s .entry)) (stateOf lo hi (now (cursor .entry)) (now (integer .entry)) (now (fraction .entry)) (now (exponent .entry))) n) ⌝ }
+{
+    block::run(
+        s,
+        lo,
+        hi,
+        reader,
+        cursor,
+        integer,
+        fraction,
+        exponent,
+        found,
+        taken,
+        passed,
+        n,
+    )
+}
+
+// Where the part of the buffer that such a block is starts, and its length; 0 and 0 for no block and for a refusal.
+#[no_mangle]
+pub extern "C" fn pawhetino_take_n_part(
+    s: &[u8],
+    lo: u64,
+    hi: u64,
+    reader: u8,
+    cursor: usize,
+    integer: usize,
+    fraction: usize,
+    exponent: usize,
+    start: &mut usize,
+    length: &mut usize,
+    n: usize,
+) -> u32
+    ensures { λ r. ⌜ partHeld r (now (start .exit)) (now (length .exit)) ≡ partWritten cursor (blockTakenBy reader (now (s .entry)) (stateOf lo hi cursor integer fraction exponent) n) ⌝ }
+{
+    let state = reply::state_of(lo, hi, cursor, integer, fraction, exponent);
+    let reply = block::part(s, state, reader, n);
+    *start = reply.start;
+    *length = reply.length;
+    reply.number
 }
 
 // The byte under a plain reader's cursor. It passes nothing, and its state is the cursor alone.

@@ -84,7 +84,7 @@ pub(crate) fn state_of(
     }
 }
 
-fn reader_of(reader: u8) -> Named
+pub(crate) fn reader_of(reader: u8) -> Named
     ensures { λ r. ⌜ namedReader r ≡ readerOf reader ⌝ }
 {
     match reader {

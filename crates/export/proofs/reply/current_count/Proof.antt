@@ -1,7 +1,7 @@
 -- `export::reply::current_count` meets its contract. Assumes nothing.
-use mathlib.Core.Path.{_∙_, sym, ap}
-use Rattle.export.specs.Reply.{namedReader, countedFor}
+use Rattle.export.specs.Reply.{countedFor}
 use borrow.Author.Needs.{needs}
+use Rattle.export.proofs.Naming.{named, unnamed}
 use Rattle.export.proofs.reply.current_count.Statement.{statement}
 use Rattle.export.proofs.reply.current_count.Tie as tie
 
@@ -24,13 +24,13 @@ returns : tie.Need-returns
 unfolding countedFor
 returns c =
     let b = c .before .before .before in
-    let e = sym (b .before .before .reader-of .ensures) ∙ ap namedReader (b .by .given .1) in
+    let e = named _ _ (b .before .before .reader-of .ensures) _ (b .by .given .1) in
     rw (e, ← c .before .current-count .ensures) (c .count-reply .ensures)
 
 returns-2 : tie.Need-returns-2
 unfolding countedFor
 returns-2 c =
-    let e = sym (c .before .before .reader-of .ensures) ∙ ap namedReader (c .enum-told .given .1) in
+    let e = unnamed _ _ (c .before .before .reader-of .ensures) (c .enum-told .given .1) in
     rw e
 
 pub current-count-spec : {M : Type 1} → statement M
