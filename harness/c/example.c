@@ -1,4 +1,5 @@
-/* The library from C: the checks of four words and a cell read to its end, with the answers that they must give. */
+/* The library from C: the checks of four words, a cell read to its end, and zeros skipped before a block is taken, with the
+ * answers that they must give. */
 #include <stdio.h>
 
 #include "pawhetino.h"
@@ -30,8 +31,27 @@ static int read_cell(void) {
     return number != 0 || cursor != 5 || integer != 4 || taken != 4 || passed != 1 || has_byte != 0;
 }
 
+/* `00_12`: the integer reader skips the zeros, and the read that fails passes the separator; the fraction reader, which has no
+ * flags in this word, takes what is left. Its part is asked for with the state from before. */
+static int skip_zeros_and_take_block(void) {
+    static const uint8_t cell[] = {'0', '0', '_', '1', '2'};
+    const uint64_t lo = examples[0].lo, hi = examples[0].hi;
+    size_t cursor = 0, integer = 0, fraction = 0, exponent = 0, zeros = 0, taken, passed, start, length;
+    uint8_t has_block;
+    uint32_t number = pawhetino_skip_zeros(cell, sizeof cell, lo, hi, 0, &cursor, &integer, &fraction, &exponent, &zeros,
+                                           &taken, &passed);
+    int wrong = number != 0 || cursor != 3 || integer != 2 || zeros != 2 || taken != 2 || passed != 1;
+    number = pawhetino_take_n_part(cell, sizeof cell, lo, hi, 1, cursor, integer, fraction, exponent, &start, &length, 8);
+    wrong += number != 0 || start != 3 || length != 2;
+    number = pawhetino_take_n(cell, sizeof cell, lo, hi, 1, &cursor, &integer, &fraction, &exponent, &has_block, &taken,
+                              &passed, 8);
+    wrong += number != 0 || cursor != 5 || has_block != 1 || taken != 2 || passed != 0;
+    printf("00_12: %zu zeros, then %.*s\n", zeros, (int)length, (const char *)cell + start);
+    return wrong;
+}
+
 int main(void) {
-    int wrong = read_cell();
+    int wrong = read_cell() + skip_zeros_and_take_block();
     for (size_t i = 0; i < sizeof examples / sizeof *examples; i++) {
         const struct example *e = &examples[i];
         uint32_t full = pawhetino_format_error(e->lo, e->hi);

@@ -87,7 +87,7 @@ fn require_every_answer(check: &Check, histogram: &Histogram, report: &mut Repor
     report.close(group);
     for (number, count) in histogram.iter().enumerate() {
         if *count > 0 {
-            println!("       answer {number:2}: {count}");
+            report.tell(format!("answer {number:2}: {count}"));
         }
     }
 }

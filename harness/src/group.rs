@@ -42,25 +42,27 @@ impl Group {
     }
 }
 
+/// Runs some groups with a seed, and closes each.
+pub type Groups = fn(&mut Report, u64);
+
 #[derive(Default)]
 pub struct Report {
     passed: u32,
     failed: u32,
+    lines: Vec<String>,
 }
 
 impl Report {
-    /// Prints and counts a finished group. One that compared nothing fails: it
+    /// Tells and counts a finished group. One that compared nothing fails: it
     /// has shown nothing.
     pub fn close(&mut self, group: Group) {
         let passed = group.different == 0 && group.compared > 0;
         let verdict = if passed { "ok  " } else { "FAIL" };
-        println!(
+        self.lines.push(format!(
             "{verdict} {}: {} compared, {} different",
             group.name, group.compared, group.different
-        );
-        for difference in &group.shown {
-            println!("       {difference}");
-        }
+        ));
+        group.shown.into_iter().for_each(|line| self.tell(line));
         if passed {
             self.passed += 1;
         } else {
@@ -68,7 +70,40 @@ impl Report {
         }
     }
 
+    /// Says something about the group closed last.
+    pub fn tell(&mut self, line: String) {
+        self.lines.push(format!("       {line}"));
+    }
+
+    /// Runs groups side by side, each with a report of its own, and tells of
+    /// them in their order. Where one panics, so does this.
+    pub fn of_all(all: &[Groups], seed: u64) -> Self {
+        std::thread::scope(|scope| {
+            let run = |groups: &Groups| {
+                let groups = *groups;
+                scope.spawn(move || {
+                    let mut report = Self::default();
+                    groups(&mut report, seed);
+                    report
+                })
+            };
+            let running: Vec<_> = all.iter().map(run).collect();
+            let reports = running.into_iter().map(|one| one.join().expect("a group"));
+            reports.fold(Self::default(), Self::and)
+        })
+    }
+
+    fn and(mut self, other: Self) -> Self {
+        self.passed += other.passed;
+        self.failed += other.failed;
+        self.lines.extend(other.lines);
+        self
+    }
+
     pub fn finish(self) -> ExitCode {
+        for line in &self.lines {
+            println!("{line}");
+        }
         println!("harness: {} passed, {} failed", self.passed, self.failed);
         if self.failed == 0 {
             ExitCode::SUCCESS

@@ -1,63 +1,8 @@
-//! Compares the Rattle library with the Rust crate that it was ported from.
-//!
-//! `test` runs every comparison, `record` writes the crate's answers for a
-//! program without Rust at hand, `bench` times the two side by side.
-
-#![deny(unsafe_code)]
-
-mod bench;
-mod checks;
-mod digits;
-mod families;
-mod group;
-mod library;
-mod named;
-mod oracle;
-mod readers;
-mod record;
-mod rng;
-mod timing;
-mod word;
-mod words;
+//! The program: only what is linked with the Rattle library, so that all the
+//! rest can be built before that library is.
 
 use std::process::ExitCode;
 
-/// The seed of every command, unless `test` is given another.
-const SEED: u64 = 0x5041_5748_4554_494E;
-
-const USAGE: &str = "usage: harness test [seed] | bench | record";
-
 fn main() -> ExitCode {
-    let arguments: Vec<String> = std::env::args().skip(1).collect();
-    let arguments: Vec<&str> = arguments.iter().map(String::as_str).collect();
-    match arguments.as_slice() {
-        ["test"] => test(SEED),
-        ["test", seed] => parse_seed(seed).map_or_else(usage, test),
-        ["bench"] => bench::run(SEED),
-        ["record"] => record::run(SEED),
-        _ => usage(),
-    }
-}
-
-fn test(seed: u64) -> ExitCode {
-    println!("seed 0x{seed:016X}");
-    let mut report = group::Report::default();
-    named::run(&mut report);
-    digits::run(&mut report);
-    checks::run(&mut report, seed);
-    readers::run(&mut report, seed);
-    report.finish()
-}
-
-/// Reads a seed as it is printed (hexadecimal after `0x`), or as a decimal.
-fn parse_seed(text: &str) -> Option<u64> {
-    match text.strip_prefix("0x") {
-        Some(hexadecimal) => u64::from_str_radix(hexadecimal, 16).ok(),
-        None => text.parse().ok(),
-    }
-}
-
-fn usage() -> ExitCode {
-    eprintln!("{USAGE}");
-    ExitCode::from(2)
+    harness::main()
 }

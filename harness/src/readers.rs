@@ -1,6 +1,8 @@
 //! The reader calls: the library's beside the crate's.
 
+mod answer;
 mod bench;
+mod blocks;
 mod call;
 mod comparison;
 mod compiled;
@@ -8,30 +10,43 @@ mod counts;
 mod digits;
 mod draw;
 mod examples;
+mod history;
 mod library;
+mod lists;
+mod outcomes;
 mod plain;
 mod port;
 mod random;
 mod record;
+mod refusal;
 mod refusals;
 mod rules;
 mod runs;
 mod sets;
 mod small;
+mod table;
+mod tally;
+mod walk;
 mod words;
+mod written;
 
 pub use bench::run as bench;
 pub use record::write as record;
 
-use crate::group::Report;
+use crate::group::Groups;
 
-pub fn run(report: &mut Report, seed: u64) {
-    examples::run(report);
-    digits::run(report);
-    small::run(report);
-    random::run(report, seed);
-    runs::run(report);
-    counts::run(report, seed);
-    plain::run(report, seed);
-    refusals::run(report);
-}
+/// The groups of reader calls, the longest first.
+pub const GROUPS: [Groups; 12] = [
+    |report, _| small::run(report),
+    random::run,
+    tally::run,
+    |report, _| runs::run(report),
+    lists::run,
+    |report, _| examples::run(report),
+    |report, _| written::run(report),
+    |report, _| digits::run(report),
+    |report, _| blocks::run(report),
+    counts::run,
+    plain::run,
+    |report, _| refusals::run(report),
+];

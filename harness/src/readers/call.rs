@@ -1,4 +1,4 @@
-//! A reader call: what it is given, and what it answers.
+//! A reader call: which one it is, and what it is given.
 
 use std::fmt;
 
@@ -14,7 +14,8 @@ pub const COUNTED: [u8; 3] = [INTEGER, FRACTION, EXPONENT];
 
 pub const READERS: [u8; 4] = [INTEGER, FRACTION, EXPONENT, SPECIAL];
 
-/// What a call starts from, and what it leaves for the next one.
+/// What a call starts from, and what it leaves for the next one. The default
+/// is the fresh state.
 #[derive(Clone, Copy, PartialEq, Eq, Default)]
 pub struct State {
     pub cursor: usize,
@@ -29,6 +30,8 @@ pub enum Call {
     NextAll,
     ReadIf(ByteSet),
     ReadIfValueCased(u8),
+    SkipZeros,
+    TakeN(usize),
 }
 
 /// 256 bits, lowest first.
@@ -44,30 +47,20 @@ pub struct Case<'a> {
     pub reader: u8,
 }
 
-/// All that a call answers, so that all of it is compared at once.
-#[derive(Clone, Copy, PartialEq, Eq)]
-pub struct Answer {
-    /// 0, or why the call was refused.
-    pub number: u32,
-    pub has_byte: u8,
-    /// 0 where a call that was not refused has no byte.
-    pub byte: u8,
-    pub taken: usize,
-    pub passed: usize,
-    pub state: State,
+/// A call in a list of calls.
+#[derive(Clone, Copy)]
+pub struct Step {
+    pub reader: u8,
+    pub call: Call,
 }
 
-impl Answer {
-    /// The answer of a call that was not refused: what it moved over without
-    /// taking, it passed.
-    pub fn new(before: State, byte: Option<u8>, taken: usize, after: State) -> Self {
+impl<'a> Case<'a> {
+    pub fn fresh(word: Word, buffer: &'a [u8], reader: u8) -> Self {
         Self {
-            number: 0,
-            has_byte: u8::from(byte.is_some()),
-            byte: byte.unwrap_or(0),
-            taken,
-            passed: after.cursor - before.cursor - taken,
-            state: after,
+            word,
+            buffer,
+            state: State::default(),
+            reader,
         }
     }
 }
@@ -89,8 +82,15 @@ impl ByteSet {
 }
 
 impl Call {
-    pub const NAMES: [&'static str; 5] =
-        ["peek", "next", "next_all", "read_if", "read_if_value_cased"];
+    pub const NAMES: [&'static str; 7] = [
+        "peek",
+        "next",
+        "next_all",
+        "read_if",
+        "read_if_value_cased",
+        "skip_zeros",
+        "take_n",
+    ];
 
     /// The place of this call's name.
     pub fn kind(self) -> usize {
@@ -100,6 +100,8 @@ impl Call {
             Self::NextAll => 2,
             Self::ReadIf(_) => 3,
             Self::ReadIfValueCased(_) => 4,
+            Self::SkipZeros => 5,
+            Self::TakeN(_) => 6,
         }
     }
 }
@@ -123,6 +125,7 @@ impl fmt::Display for Call {
         match self {
             Self::ReadIf(ByteSet(set)) => write!(out, " of {set:016X?}"),
             Self::ReadIfValueCased(value) => write!(out, " of 0x{value:02X}"),
+            Self::TakeN(n) => write!(out, " of {n}"),
             _ => Ok(()),
         }
     }
@@ -131,28 +134,5 @@ impl fmt::Display for Call {
 impl fmt::Display for State {
     fn fmt(&self, out: &mut fmt::Formatter<'_>) -> fmt::Result {
         write!(out, "cursor {} counts {:?}", self.cursor, self.counts)
-    }
-}
-
-impl fmt::Display for Answer {
-    fn fmt(&self, out: &mut fmt::Formatter<'_>) -> fmt::Result {
-        write!(
-            out,
-            "(number {}, has_byte {} 0x{:02X}, taken {}, passed {}, {})",
-            self.number, self.has_byte, self.byte, self.taken, self.passed, self.state
-        )
-    }
-}
-
-/// The answer of `current_count`.
-#[derive(Clone, Copy, PartialEq, Eq)]
-pub struct CountAnswer {
-    pub number: u32,
-    pub count: usize,
-}
-
-impl fmt::Display for CountAnswer {
-    fn fmt(&self, out: &mut fmt::Formatter<'_>) -> fmt::Result {
-        write!(out, "(number {}, count {})", self.number, self.count)
     }
 }

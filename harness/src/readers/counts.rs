@@ -1,7 +1,8 @@
 //! `current_count`: the reader's own count, or what the crate shows in place of
 //! it. The special reader has no count, so it is not compared.
 
-use super::call::{Case, CountAnswer, State, COUNTED};
+use super::answer::CountAnswer;
+use super::call::{Case, State, COUNTED};
 use super::compiled::Readers;
 use super::words::compiled;
 use super::{draw, library};

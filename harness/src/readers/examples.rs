@@ -1,7 +1,8 @@
 //! The thirteen examples of the definition, A to N without I, with the outcomes
 //! written there. Separator `_`, radix 10, integer reader, from a fresh state.
 
-use super::call::{Answer, Call, Case, State, INTEGER};
+use super::answer::{Answer, Found};
+use super::call::{Call, Case, State, INTEGER};
 use super::library;
 use super::sets::{I, IC, IL, ILC, ITC, L, LC, NONE, T};
 use super::words::{compiled_for_integer, with_integer_flags};
@@ -51,7 +52,7 @@ const PEEKED: [Peeked; 11] = [
 ];
 
 /// The library or the crate.
-type Ask<'a> = &'a dyn Fn(&Case, Call) -> Answer;
+type Ask<'a> = &'a dyn for<'b> Fn(&Case<'b>, Call) -> Answer<'b>;
 
 pub fn run(report: &mut Report) {
     let mut group = Group::new("examples A to N");
@@ -77,7 +78,8 @@ fn compare_peeked(group: &mut Group, example: &Peeked, asked: &str, ask: Ask) {
     let counts = case.state.counts;
     let cursor = example.cursor;
     for time in ["first", "second"] {
-        let expected = Answer::new(case.state, example.byte, 0, State { cursor, counts });
+        let found = Found::byte(example.byte);
+        let expected = Answer::new(case.state, found, 0, State { cursor, counts });
         let answer = ask(&case, Call::Peek);
         group.agree(
             &format_args!("{}, {time} peek", example.name),
@@ -96,7 +98,7 @@ fn compare_m(group: &mut Group, asked: &str, ask: Ask) {
             cursor,
             counts: [count, 0, 0],
         };
-        let expected = Answer::new(case.state, Some(byte), 1, after);
+        let expected = Answer::new(case.state, Found::byte(Some(byte)), 1, after);
         let answer = ask(&case, Call::Next);
         group.agree(
             &format_args!("M, take to {cursor}"),
@@ -119,10 +121,5 @@ fn compare_n(group: &mut Group) {
 }
 
 fn fresh(buffer: &[u8], set: u32) -> Case<'_> {
-    Case {
-        word: with_integer_flags(set),
-        buffer,
-        state: State::default(),
-        reader: INTEGER,
-    }
+    Case::fresh(with_integer_flags(set), buffer, INTEGER)
 }

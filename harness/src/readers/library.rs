@@ -2,163 +2,169 @@
 
 #![allow(unsafe_code)]
 
-use super::call::{Answer, ByteSet, Call, Case, CountAnswer, State};
+mod functions;
+
+use self::functions::*;
+use super::answer::{Answer, CountAnswer, Found, Part, UNTOUCHED, UNTOUCHED_NUMBER};
+use super::call::{ByteSet, Call, Case, State};
 use crate::word::Word;
 
-/// What a byte holds that no call has written to.
-pub const UNTOUCHED: u8 = 0xA5;
-
-/// The same for a number.
-pub const UNTOUCHED_NUMBER: usize = 0xA5A5_A5A5;
-
-/// Declares calls that share most of their parameters.
-macro_rules! declare {
-    ($shared:tt $($function:ident($($more:ident: $type:ty),*);)*) => {
-        $(declare!(@one $shared $function($($more: $type),*));)*
-    };
-    (@one ($($name:ident: $of:ty,)*) $function:ident($($more:ident: $type:ty),*)) => {
-        unsafe extern "C" {
-            fn $function($($name: $of,)* $($more: $type),*) -> u32;
+/// Makes a call with what all calls are given: the case with its state, which
+/// may be lent to be written to, and then what this one takes besides.
+macro_rules! ask {
+    ($function:ident, $case:expr, $state:expr, $($more:expr),*) => {{
+        let State { cursor, counts: [integer, fraction, exponent] } = $state;
+        // SAFETY: pointer and length are those of one slice; the rest are
+        // numbers and places of our own.
+        unsafe {
+            $function(
+                $case.buffer.as_ptr(),
+                $case.buffer.len(),
+                $case.word.lo(),
+                $case.word.hi(),
+                $case.reader,
+                cursor,
+                integer,
+                fraction,
+                exponent,
+                $($more),*
+            )
         }
-    };
-}
-
-declare! {
-    (
-        s: *const u8,
-        len: usize,
-        lo: u64,
-        hi: u64,
-        reader: u8,
-        cursor: &mut usize,
-        integer: &mut usize,
-        fraction: &mut usize,
-        exponent: &mut usize,
-        has_byte: &mut u8,
-        byte: &mut u8,
-        taken: &mut usize,
-        passed: &mut usize,
-    )
-    pawhetino_peek();
-    pawhetino_next();
-    pawhetino_next_all();
-    pawhetino_read_if(set0: u64, set1: u64, set2: u64, set3: u64);
-    pawhetino_read_if_value_cased(value: u8);
-}
-
-declare! {
-    (
-        s: *const u8,
-        len: usize,
-        reader: u8,
-        cursor: &mut usize,
-        has_byte: &mut u8,
-        byte: &mut u8,
-        taken: &mut usize,
-        passed: &mut usize,
-    )
-    pawhetino_plain_peek();
-    pawhetino_plain_next();
-}
-
-unsafe extern "C" {
-    fn pawhetino_current_count(
-        s: *const u8,
-        len: usize,
-        lo: u64,
-        hi: u64,
-        reader: u8,
-        cursor: usize,
-        integer: usize,
-        fraction: usize,
-        exponent: usize,
-        count: &mut usize,
-    ) -> u32;
-    safe fn pawhetino_is_digit(lo: u64, hi: u64, c: u8) -> bool;
-    safe fn pawhetino_is_digit_separator(lo: u64, hi: u64, c: u8) -> bool;
+    }};
 }
 
 /// Inlined, so that a caller who knows the call does not choose it again.
 #[inline(always)]
-pub fn call(case: &Case, call: Call) -> Answer {
-    let mut answer = unwritten(case.state);
-    let [integer, fraction, exponent] = &mut answer.state.counts;
-    macro_rules! ask {
+pub fn call<'a>(case: &Case<'a>, call: Call) -> Answer<'a> {
+    match call {
+        Call::SkipZeros => skip_zeros(case),
+        Call::TakeN(n) => take_n(case, n),
+        _ => find_byte(case, call),
+    }
+}
+
+#[inline(always)]
+fn find_byte<'a>(case: &Case<'a>, call: Call) -> Answer<'a> {
+    let mut state = case.state;
+    let mut places = Places::unwritten();
+    macro_rules! ask_for_byte {
         ($function:ident $(, $more:expr)*) => {
-            // SAFETY: pointer and length are those of one slice; the rest are
-            // numbers and places of our own.
-            unsafe {
-                $function(
-                    case.buffer.as_ptr(),
-                    case.buffer.len(),
-                    case.word.lo(),
-                    case.word.hi(),
-                    case.reader,
-                    &mut answer.state.cursor,
-                    integer,
-                    fraction,
-                    exponent,
-                    &mut answer.has_byte,
-                    &mut answer.byte,
-                    &mut answer.taken,
-                    &mut answer.passed,
-                    $($more),*
-                )
-            }
+            ask!(
+                $function,
+                case,
+                &mut state,
+                &mut places.has_byte,
+                &mut places.byte,
+                &mut places.taken,
+                &mut places.passed
+                $(, $more)*
+            )
         };
     }
-    answer.number = match call {
-        Call::Peek => ask!(pawhetino_peek),
-        Call::Next => ask!(pawhetino_next),
-        Call::NextAll => ask!(pawhetino_next_all),
-        Call::ReadIf(ByteSet([a, b, c, d])) => ask!(pawhetino_read_if, a, b, c, d),
-        Call::ReadIfValueCased(value) => ask!(pawhetino_read_if_value_cased, value),
+    let number = match call {
+        Call::Peek => ask_for_byte!(pawhetino_peek),
+        Call::Next => ask_for_byte!(pawhetino_next),
+        Call::NextAll => ask_for_byte!(pawhetino_next_all),
+        Call::ReadIf(ByteSet([a, b, c, d])) => ask_for_byte!(pawhetino_read_if, a, b, c, d),
+        Call::ReadIfValueCased(value) => ask_for_byte!(pawhetino_read_if_value_cased, value),
+        Call::SkipZeros | Call::TakeN(_) => panic!("not a call that finds a byte"),
     };
-    settled(answer)
+    places.answer(number, state)
+}
+
+#[inline(always)]
+fn skip_zeros<'a>(case: &Case<'a>) -> Answer<'a> {
+    let mut state = case.state;
+    let [mut zeros, mut taken, mut passed] = [UNTOUCHED_NUMBER; 3];
+    let number = ask!(
+        pawhetino_skip_zeros,
+        case,
+        &mut state,
+        &mut zeros,
+        &mut taken,
+        &mut passed
+    );
+    Answer {
+        number,
+        found: Found::Zeros(zeros),
+        taken,
+        passed,
+        state,
+    }
+}
+
+/// Two calls on the same arguments: the second is asked for the part.
+#[inline(always)]
+fn take_n<'a>(case: &Case<'a>, n: usize) -> Answer<'a> {
+    let mut state = case.state;
+    let mut has_block = UNTOUCHED;
+    let [mut taken, mut passed] = [UNTOUCHED_NUMBER; 2];
+    let number = ask!(
+        pawhetino_take_n,
+        case,
+        &mut state,
+        &mut has_block,
+        &mut taken,
+        &mut passed,
+        n
+    );
+    let part = take_n_part(case, n);
+    Answer {
+        number,
+        found: Found::Block { has_block, part },
+        taken,
+        passed,
+        state,
+    }
+}
+
+#[inline(always)]
+fn take_n_part<'a>(case: &Case<'a>, n: usize) -> Part<'a> {
+    let [mut start, mut length] = [UNTOUCHED_NUMBER; 2];
+    let number = ask!(
+        pawhetino_take_n_part,
+        case,
+        case.state,
+        &mut start,
+        &mut length,
+        n
+    );
+    let rest = case.buffer.get(start..);
+    Part {
+        number,
+        start,
+        bytes: rest.and_then(|rest| rest.get(..length)),
+    }
 }
 
 /// A peek or a take by the plain reader, which has no word and no counts.
-pub fn plain_call(case: &Case, call: Call) -> Answer {
+pub fn plain_call<'a>(case: &Case<'a>, call: Call) -> Answer<'a> {
     let function = match call {
         Call::Peek => pawhetino_plain_peek,
         Call::Next => pawhetino_plain_next,
         _ => panic!("the plain reader has no such call"),
     };
-    let mut answer = unwritten(case.state);
+    let mut state = case.state;
+    let mut places = Places::unwritten();
     // SAFETY: as above.
-    answer.number = unsafe {
+    let number = unsafe {
         function(
             case.buffer.as_ptr(),
             case.buffer.len(),
             case.reader,
-            &mut answer.state.cursor,
-            &mut answer.has_byte,
-            &mut answer.byte,
-            &mut answer.taken,
-            &mut answer.passed,
+            &mut state.cursor,
+            &mut places.has_byte,
+            &mut places.byte,
+            &mut places.taken,
+            &mut places.passed,
         )
     };
-    settled(answer)
+    places.answer(number, state)
 }
 
 pub fn current_count(case: &Case) -> CountAnswer {
     let mut count = UNTOUCHED_NUMBER;
-    let State { cursor, counts } = case.state;
-    // SAFETY: as above.
-    let number = unsafe {
-        pawhetino_current_count(
-            case.buffer.as_ptr(),
-            case.buffer.len(),
-            case.word.lo(),
-            case.word.hi(),
-            case.reader,
-            cursor,
-            counts[0],
-            counts[1],
-            counts[2],
-            &mut count,
-        )
-    };
+    let number = ask!(pawhetino_current_count, case, case.state, &mut count);
     CountAnswer { number, count }
 }
 
@@ -170,22 +176,38 @@ pub fn is_digit_separator(word: Word, byte: u8) -> bool {
     pawhetino_is_digit_separator(word.lo(), word.hi(), byte)
 }
 
-/// Nothing but the state is read, so nothing else has a meaning before a call.
-fn unwritten(state: State) -> Answer {
-    Answer {
-        number: 0,
-        has_byte: UNTOUCHED,
-        byte: UNTOUCHED,
-        taken: UNTOUCHED_NUMBER,
-        passed: UNTOUCHED_NUMBER,
-        state,
-    }
+/// Where a call that finds a byte writes to, besides the state. Nothing there
+/// is read, so nothing has a meaning before the call.
+struct Places {
+    has_byte: u8,
+    byte: u8,
+    taken: usize,
+    passed: usize,
 }
 
-/// Where there is no byte, it may be anything, unless the call was refused.
-fn settled(mut answer: Answer) -> Answer {
-    if answer.number == 0 && answer.has_byte == 0 {
-        answer.byte = 0;
+impl Places {
+    fn unwritten() -> Self {
+        Self {
+            has_byte: UNTOUCHED,
+            byte: UNTOUCHED,
+            taken: UNTOUCHED_NUMBER,
+            passed: UNTOUCHED_NUMBER,
+        }
     }
-    answer
+
+    /// Where there is no byte, it may be anything, unless the call was refused.
+    fn answer<'a>(self, number: u32, state: State) -> Answer<'a> {
+        let Self { has_byte, byte, .. } = self;
+        let is_anything = number == 0 && has_byte == 0;
+        Answer {
+            number,
+            found: Found::Byte {
+                has_byte,
+                byte: if is_anything { 0 } else { byte },
+            },
+            taken: self.taken,
+            passed: self.passed,
+            state,
+        }
+    }
 }

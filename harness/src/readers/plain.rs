@@ -5,7 +5,8 @@
 
 use lexical_util_plain::iterator::{Bytes, DigitsIter, Iter};
 
-use super::call::{Answer, Call, Case, State, EXPONENT, FRACTION, INTEGER, READERS, SPECIAL};
+use super::answer::{Answer, Found};
+use super::call::{Call, Case, State, EXPONENT, FRACTION, INTEGER, READERS, SPECIAL};
 use super::small::{alphabet, for_each_buffer};
 use super::words::DECIMAL;
 use super::{draw, library};
@@ -55,7 +56,7 @@ fn compare(group: &mut Group, buffer: &[u8]) {
 /// Any word would do: it is a parameter that the crate's plain reader ignores.
 type PlainBytes<'a> = Bytes<'a, { DECIMAL.bits() }>;
 
-fn oracle_call(case: &Case, call: Call) -> Answer {
+fn oracle_call<'a>(case: &Case<'a>, call: Call) -> Answer<'a> {
     let State { cursor, counts } = case.state;
     assert!(cursor <= case.buffer.len(), "a cursor within the buffer");
     let mut bytes = PlainBytes::new(case.buffer);
@@ -74,6 +75,7 @@ fn oracle_call(case: &Case, call: Call) -> Answer {
         _ => panic!("the plain reader has no such call"),
     };
     let taken = usize::from(byte.is_some() && matches!(call, Call::Next));
+    let found = Found::byte(byte.copied());
     let cursor = iter.cursor();
-    Answer::new(case.state, byte.copied(), taken, State { cursor, counts })
+    Answer::new(case.state, found, taken, State { cursor, counts })
 }

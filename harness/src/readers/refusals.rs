@@ -1,28 +1,31 @@
-//! Refusals. The crate has none (it panics, or trusts its caller), so these go
-//! by the definition: which number, and that nothing else is changed.
+//! Refusals. The crate has none, so these go by the definition: which number,
+//! and that nothing else is changed.
 
 use std::collections::BTreeMap;
 
-use super::call::{Answer, ByteSet, Call, Case, CountAnswer, State, COUNTED, READERS, SPECIAL};
-use super::library::{self, UNTOUCHED, UNTOUCHED_NUMBER};
+use super::answer::{Answer, CountAnswer, UNTOUCHED_NUMBER};
+use super::call::{ByteSet, Call, Case, State, COUNTED, READERS, SPECIAL};
+use super::library;
+use super::refusal::{
+    self, ACCEPTED, CONSECUTIVE_INTEGER, COUNTS_EXCEED_THE_CURSOR, CURSOR_PAST_THE_END,
+    SPECIAL_HAS_NO_SUCH_CALL, UNKNOWN_READER,
+};
 use super::sets::{C, ILTC};
 use super::words::DECIMAL;
 use crate::group::{Group, Report};
 use crate::word::{reader_flags, Word, SPECIAL_SEPARATOR};
 
-const ACCEPTED: u32 = 0;
-const CONSECUTIVE_INTEGER: u32 = 12;
-const CURSOR_PAST_THE_END: u32 = 16;
-const COUNTS_EXCEED_THE_CURSOR: u32 = 17;
-const UNKNOWN_READER: u32 = 19;
-
-const NAMES: [(u32, &str); 7] = [
+const NAMES: [(u32, &str); 8] = [
     (ACCEPTED, "no refusal, where none is due"),
     (CONSECUTIVE_INTEGER, "12, consecutive alone, integer"),
     (13, "13, consecutive alone, fraction"),
     (14, "14, consecutive alone, exponent"),
     (CURSOR_PAST_THE_END, "16, cursor past the end"),
     (COUNTS_EXCEED_THE_CURSOR, "17, counts exceed the cursor"),
+    (
+        SPECIAL_HAS_NO_SUCH_CALL,
+        "18, special reader, zero skip or block",
+    ),
     (UNKNOWN_READER, "19, reader byte above 3"),
 ];
 
@@ -31,12 +34,16 @@ const BUFFERS: [&[u8]; 5] = [b"", b"_", b"1", b"1_2", b"__1__"];
 /// Some of these add up to a small number if the sum wraps.
 const COUNTS: [usize; 5] = [0, 1, 2, usize::MAX / 2 + 1, usize::MAX];
 
-const CALLS: [Call; 5] = [
+const CALLS: [Call; 9] = [
     Call::Peek,
     Call::Next,
     Call::NextAll,
     Call::ReadIf(ByteSet::ALL),
     Call::ReadIfValueCased(b'1'),
+    Call::SkipZeros,
+    Call::TakeN(0),
+    Call::TakeN(1),
+    Call::TakeN(usize::MAX),
 ];
 
 type Groups = BTreeMap<u32, Group>;
@@ -111,23 +118,14 @@ fn cursors(buffer: &[u8]) -> impl Iterator<Item = usize> {
 }
 
 fn compare_calls(groups: &mut Groups, case: &Case) {
-    let number = first_of([
-        unknown_reader(case),
-        cursor_past_the_end(case),
-        counts_exceed_the_cursor(case),
-        own_flags_consecutive_alone(case),
-    ]);
     for call in CALLS {
+        let number = refusal::of_call(case, call);
         compare_answer(groups, case, call, number, library::call(case, call));
     }
 }
 
 fn compare_count(groups: &mut Groups, case: &Case) {
-    let number = first_of([
-        unknown_reader(case),
-        cursor_past_the_end(case),
-        counts_exceed_the_cursor(case),
-    ]);
+    let number = refusal::of_count(case);
     let answer = library::current_count(case);
     let count = if number == ACCEPTED {
         answer.count
@@ -141,7 +139,6 @@ fn compare_count(groups: &mut Groups, case: &Case) {
     );
 }
 
-/// The plain reader has no word and no counts to be refused.
 fn compare_plain(groups: &mut Groups, buffer: &[u8], reader: u8) {
     for cursor in cursors(buffer) {
         let counts = [0; 3];
@@ -151,7 +148,7 @@ fn compare_plain(groups: &mut Groups, buffer: &[u8], reader: u8) {
             state: State { cursor, counts },
             reader,
         };
-        let number = first_of([unknown_reader(&case), cursor_past_the_end(&case)]);
+        let number = refusal::of_plain_call(&case);
         for call in [Call::Peek, Call::Next] {
             let answer = library::plain_call(&case, call);
             compare_answer(groups, &case, call, number, answer);
@@ -164,14 +161,7 @@ fn compare_answer(groups: &mut Groups, case: &Case, call: Call, number: u32, ans
     let expected = if number == ACCEPTED {
         Answer { number, ..answer }
     } else {
-        Answer {
-            number,
-            has_byte: 0,
-            byte: UNTOUCHED,
-            taken: 0,
-            passed: 0,
-            state: case.state,
-        }
+        Answer::refused(number, call, case.state)
     };
     group_of(groups, number).agree(
         &format_args!("{call}, {case}"),
@@ -182,26 +172,4 @@ fn compare_answer(groups: &mut Groups, case: &Case, call: Call, number: u32, ans
 
 fn group_of(groups: &mut Groups, number: u32) -> &mut Group {
     groups.get_mut(&number).expect("a group for each number")
-}
-
-fn first_of<const N: usize>(tests: [Option<u32>; N]) -> u32 {
-    tests.into_iter().flatten().next().unwrap_or(ACCEPTED)
-}
-
-fn unknown_reader(case: &Case) -> Option<u32> {
-    (case.reader > SPECIAL).then_some(UNKNOWN_READER)
-}
-
-fn cursor_past_the_end(case: &Case) -> Option<u32> {
-    (case.state.cursor > case.buffer.len()).then_some(CURSOR_PAST_THE_END)
-}
-
-fn counts_exceed_the_cursor(case: &Case) -> Option<u32> {
-    let together: u128 = case.state.counts.iter().map(|&count| count as u128).sum();
-    (together > case.state.cursor as u128).then_some(COUNTS_EXCEED_THE_CURSOR)
-}
-
-fn own_flags_consecutive_alone(case: &Case) -> Option<u32> {
-    (case.reader < SPECIAL && case.word.reader_set(case.reader) == C)
-        .then_some(CONSECUTIVE_INTEGER + u32::from(case.reader))
 }

@@ -1,7 +1,8 @@
 //! Which rules a comparison has tried. Each must have let a separator pass and
 //! kept one, where it can: otherwise a library that is wrong there is not seen.
 
-use super::call::{Answer, Call, Case, SPECIAL};
+use super::answer::Answer;
+use super::call::{Call, Case, SPECIAL};
 use super::sets::{ILTC, ITC, L, LC, NONE, SETS};
 use crate::group::{Group, Report};
 use crate::word::Field;

@@ -9,11 +9,13 @@ use crate::group::{Group, Report};
 
 const LONGEST: usize = 300;
 
-/// No byte, a digit, another byte.
-const NEIGHBOURS: [&[u8]; 3] = [b"", b"7", b"x"];
+/// No byte, a digit that can be skipped too, another byte.
+const NEIGHBOURS: [&[u8]; 3] = [b"", b"0", b"x"];
+
+const CALLS: [Call; 3] = [Call::Peek, Call::Next, Call::SkipZeros];
 
 pub fn run(report: &mut Report) {
-    let mut group = Group::new("readers, long runs, peek and next");
+    let mut group = Group::new("readers, long runs, peek, next and skip_zeros");
     let decimal = compiled()
         .iter()
         .filter(|rust| rust.word().hi() == DECIMAL.hi());
@@ -43,7 +45,7 @@ fn compare_at(group: &mut Group, rust: &dyn Readers, buffer: &[u8], cursor: usiz
                 state: State { cursor, counts },
                 reader,
             };
-            for call in [Call::Peek, Call::Next] {
+            for call in CALLS {
                 group.agree(
                     &format_args!("{call}, {case}"),
                     ("library", library::call(&case, call)),

@@ -3,7 +3,7 @@
 use super::call::{ByteSet, Call, Case, State, SPECIAL};
 use super::comparison::Comparison;
 use super::compiled::Readers;
-use super::words::{compiled, with_flags};
+use super::words::{compiled, with_flags, without_flags};
 use crate::group::Report;
 use crate::oracle;
 use crate::word::{Field, Word};
@@ -13,17 +13,31 @@ const LONGEST: usize = 5;
 pub fn run(report: &mut Report) {
     let mut comparison = Comparison::new("small buffers");
     for &rust in compiled() {
-        for reader in with_flags(rust.word()) {
-            compare_reader(&mut comparison, rust, reader);
+        let word = rust.word();
+        for reader in with_flags(word) {
+            compare_reader(&mut comparison, rust, reader, &calls(alphabet(word)));
+        }
+        for reader in without_flags(word) {
+            compare_reader(&mut comparison, rust, reader, &CALLS_WITHOUT_FLAGS);
         }
     }
     comparison.close(report);
 }
 
-fn compare_reader(comparison: &mut Comparison, rust: &dyn Readers, reader: u8) {
+/// What is worth asking of a reader without flags, which passes nothing: the
+/// call that raises its count all the same, and the blocks that only it takes.
+const CALLS_WITHOUT_FLAGS: [Call; 6] = [
+    Call::SkipZeros,
+    Call::TakeN(0),
+    Call::TakeN(1),
+    Call::TakeN(3),
+    Call::TakeN(LONGEST),
+    Call::TakeN(usize::MAX),
+];
+
+fn compare_reader(comparison: &mut Comparison, rust: &dyn Readers, reader: u8, calls: &[Call]) {
     let word = rust.word();
     let alphabet = alphabet(word);
-    let calls = calls(alphabet);
     for_each_buffer(alphabet, &mut |buffer| {
         for cursor in 0..=buffer.len() {
             for counts in counts(reader, cursor) {
@@ -33,7 +47,7 @@ fn compare_reader(comparison: &mut Comparison, rust: &dyn Readers, reader: u8) {
                     state: State { cursor, counts },
                     reader,
                 };
-                for call in calls {
+                for &call in calls {
                     comparison.compare(rust, &case, call);
                 }
             }
@@ -64,7 +78,7 @@ fn letter(word: Word) -> u8 {
         .unwrap_or(b'x')
 }
 
-fn calls([digit, _, separator, letter, _]: [u8; 5]) -> [Call; 9] {
+fn calls([digit, _, separator, letter, _]: [u8; 5]) -> [Call; 10] {
     [
         Call::Peek,
         Call::Next,
@@ -75,6 +89,7 @@ fn calls([digit, _, separator, letter, _]: [u8; 5]) -> [Call; 9] {
         Call::ReadIf(ByteSet::of([separator])),
         Call::ReadIfValueCased(digit),
         Call::ReadIfValueCased(letter),
+        Call::SkipZeros,
     ]
 }
 

@@ -1,6 +1,6 @@
 //! The words that the crate's readers are compiled for, five in a row.
 
-use super::call::{EXPONENT, FRACTION, INTEGER, READERS};
+use super::call::{COUNTED, EXPONENT, FRACTION, INTEGER, READERS};
 use super::compiled::{Compiled, Readers};
 use super::sets::{C, NONE, SETS};
 use crate::word::{reader_flags, Field, Word, SPECIAL_SEPARATOR};
@@ -15,7 +15,7 @@ const INTEGER_ROWS: usize = 3;
 
 /// One row for each, with flags for all readers: a row has all sets, and over
 /// three neighbouring rows each counted reader has.
-const SHEETS: [Word; 20] = [
+const SHEETS: [Word; 21] = [
     DECIMAL,
     DECIMAL,
     DECIMAL,
@@ -34,6 +34,7 @@ const SHEETS: [Word; 20] = [
     sheet(b'_', 2, 36),
     // Separators and radixes that the check refuses.
     sheet(b'1', 10, 0),
+    sheet(b'0', 10, 0),
     sheet(b'+', 10, 0),
     sheet(0xFF, 10, 0),
     sheet(b'_', 0, 0),
@@ -102,7 +103,7 @@ macro_rules! compile_rows {
 }
 
 static COMPILED: [[&dyn Readers; ROW]; ROWS] =
-    compile_rows!(0 1 2 3 4 5 6 7 8 9 10 11 12 13 14 15 16 17 18 19 20 21 22 23);
+    compile_rows!(0 1 2 3 4 5 6 7 8 9 10 11 12 13 14 15 16 17 18 19 20 21 22 23 24);
 
 /// The crate's readers under every word.
 pub fn compiled() -> &'static [&'static dyn Readers] {
@@ -125,4 +126,11 @@ pub fn callable(word: Word) -> impl Iterator<Item = u8> {
 /// Those of them that can pass a separator.
 pub fn with_flags(word: Word) -> impl Iterator<Item = u8> {
     callable(word).filter(move |&reader| word.reader_set(reader) != NONE)
+}
+
+/// Those that cannot, and count what they skip.
+pub fn without_flags(word: Word) -> impl Iterator<Item = u8> {
+    COUNTED
+        .into_iter()
+        .filter(move |&reader| word.reader_set(reader) == NONE)
 }

@@ -1,0 +1,222 @@
+//! The crate's `Bytes`, asked one call after the other.
+
+#![allow(unsafe_code)]
+
+use lexical_util_format::iterator::{Bytes, DigitsIter, Iter};
+
+use super::answer::{Answer, Found};
+use super::call::{Call, Case, State, Step, COUNTED, EXPONENT, FRACTION, INTEGER, SPECIAL};
+use super::refusal;
+use super::sets::NONE;
+use crate::word::{Field, Word};
+
+/// Does something with a reader, whose type is another for each.
+macro_rules! with_reader {
+    ($bytes:expr, $reader:expr, |$iter:ident| $body:expr) => {
+        match $reader {
+            INTEGER => {
+                let $iter = &mut $bytes.integer_iter();
+                $body
+            }
+            FRACTION => {
+                let $iter = &mut $bytes.fraction_iter();
+                $body
+            }
+            EXPONENT => {
+                let $iter = &mut $bytes.exponent_iter();
+                $body
+            }
+            SPECIAL => {
+                let $iter = &mut $bytes.special_iter();
+                $body
+            }
+            other => panic!("the crate has no reader {other}"),
+        }
+    };
+}
+pub(super) use with_reader;
+
+/// The crate's `Bytes` on its way through a buffer.
+pub struct Walk<'a, const FORMAT: u128> {
+    pub bytes: Bytes<'a, FORMAT>,
+    /// The state of `bytes`, which does not show all of its counts.
+    state: State,
+}
+
+impl<'a, const FORMAT: u128> Walk<'a, FORMAT> {
+    pub const WORD: Word = Word::from_halves(FORMAT as u64, (FORMAT >> 64) as u64);
+
+    pub fn at(buffer: &'a [u8], state: State) -> Self {
+        assert!(state.cursor <= buffer.len(), "a cursor within the buffer");
+        let mut bytes = Bytes::new(buffer);
+        // SAFETY: the cursor is at most the buffer's length.
+        unsafe { bytes.set_cursor(state.cursor) };
+        let [integer, fraction, exponent] = state.counts;
+        (0..integer).for_each(|_| bytes.integer_iter().increment_count());
+        (0..fraction).for_each(|_| bytes.fraction_iter().increment_count());
+        (0..exponent).for_each(|_| bytes.exponent_iter().increment_count());
+        Self { bytes, state }
+    }
+
+    pub fn step(&mut self, step: Step) -> Answer<'a> {
+        match self.refusal(step) {
+            refusal::ACCEPTED => self.call(step),
+            number => Answer::refused(number, step.call, self.state),
+        }
+    }
+
+    pub fn step_by_reads(&mut self, step: Step) -> Vec<Answer<'a>> {
+        let skips_zeros = matches!(step.call, Call::SkipZeros);
+        if skips_zeros && self.refusal(step) == refusal::ACCEPTED {
+            self.zero_reads(step.reader)
+        } else {
+            vec![self.step(step)]
+        }
+    }
+
+    fn refusal(&self, Step { reader, call }: Step) -> u32 {
+        let case = Case {
+            word: Self::WORD,
+            buffer: self.bytes.get_buffer(),
+            state: self.state,
+            reader,
+        };
+        refusal::of_call(&case, call)
+    }
+
+    fn call(&mut self, Step { reader, call }: Step) -> Answer<'a> {
+        let (found, taken) = match call {
+            Call::TakeN(n) => self.take_n(reader, n),
+            _ => with_reader!(self.bytes, reader, |iter| ask(iter, call)),
+        };
+        let zeros = match found {
+            Found::Zeros(zeros) => zeros,
+            _ => 0,
+        };
+        self.answer(reader, found, taken, zeros)
+    }
+
+    /// The reads that a zero skip consists of, up to the first that fails.
+    fn zero_reads(&mut self, reader: u8) -> Vec<Answer<'a>> {
+        let mut answers = Vec::new();
+        loop {
+            let byte = with_reader!(self.bytes, reader, |iter| read_zero(iter));
+            let taken = usize::from(byte.is_some());
+            answers.push(self.answer(reader, Found::byte(byte), taken, taken));
+            if byte.is_none() {
+                return answers;
+            }
+        }
+    }
+
+    /// In the crate the sum of `n` and the cursor can wrap, and what follows is
+    /// undefined. For such an `n` it is asked for the most that it can be: both
+    /// are more than is left.
+    fn take_n(&mut self, reader: u8, n: usize) -> (Found<'a>, usize) {
+        let n = n.min(usize::MAX - self.bytes.cursor());
+        let block = match reader {
+            INTEGER => self.bytes.integer_iter().take_n(n),
+            FRACTION => self.bytes.fraction_iter().take_n(n),
+            EXPONENT => self.bytes.exponent_iter().take_n(n),
+            other => panic!("the crate's reader {other} takes no blocks"),
+        };
+        let part = block.map(|block| block.as_slice());
+        let found = Found::block(self.bytes.get_buffer(), part);
+        (found, part.map_or(0, <[u8]>::len))
+    }
+
+    /// The answer of a call that skipped so many zeros.
+    fn answer(&mut self, reader: u8, found: Found<'a>, taken: usize, zeros: usize) -> Answer<'a> {
+        let before = self.state;
+        let shown = [
+            self.bytes.integer_iter().current_count(),
+            self.bytes.fraction_iter().current_count(),
+            self.bytes.exponent_iter().current_count(),
+        ];
+        if reader != SPECIAL {
+            self.state.counts[usize::from(reader)] += zeros;
+        }
+        self.state = State {
+            cursor: self.bytes.cursor(),
+            counts: Self::counts_behind(shown, self.state.counts),
+        };
+        assert!(
+            shown == Self::shown_for(self.state),
+            "the crate changed a count that it does not show"
+        );
+        Answer::new(before, found, taken, self.state)
+    }
+
+    /// The counts behind those shown. A reader with flags shows its own. One
+    /// without does not, so it is taken to have kept its own but for its zeros.
+    fn counts_behind(shown: [usize; 3], kept: [usize; 3]) -> [usize; 3] {
+        COUNTED.map(|reader| {
+            let counts = if Self::has_flags(reader) { shown } else { kept };
+            counts[usize::from(reader)]
+        })
+    }
+
+    /// What the definition says that the crate shows: for a reader without flags
+    /// the cursor, or where there is a separator the sum of all counts.
+    fn shown_for(State { cursor, counts }: State) -> [usize; 3] {
+        let in_place = match Self::WORD.field(Field::Separator) {
+            0 => cursor,
+            _ => counts.iter().sum(),
+        };
+        COUNTED.map(|reader| match Self::has_flags(reader) {
+            true => counts[usize::from(reader)],
+            false => in_place,
+        })
+    }
+
+    fn has_flags(reader: u8) -> bool {
+        Self::WORD.reader_set(reader) != NONE
+    }
+}
+
+/// What the call finds, and how many bytes it took.
+fn ask<'a>(iter: &mut impl DigitsIter<'a>, call: Call) -> (Found<'a>, usize) {
+    let byte = match call {
+        Call::Peek => return (Found::byte(iter.peek().copied()), 0),
+        Call::NextAll => return (Found::byte(None), next_all(iter)),
+        Call::SkipZeros => {
+            let zeros = iter.skip_zeros();
+            return (Found::Zeros(zeros), zeros);
+        }
+        Call::Next => next(iter),
+        Call::ReadIf(set) => iter.read_if(|byte| set.contains(byte)),
+        Call::ReadIfValueCased(value) => read(iter, value),
+        Call::TakeN(_) => panic!("not a call that all readers of the crate have"),
+    };
+    (Found::byte(byte), usize::from(byte.is_some()))
+}
+
+fn next_all<'a>(iter: &mut impl DigitsIter<'a>) -> usize {
+    let mut taken = 0;
+    while next(iter).is_some() {
+        taken += 1;
+    }
+    taken
+}
+
+/// Never inlined: the crate's own is, and one copy of it for each reader and
+/// word is enough for the compiler.
+#[inline(never)]
+fn next<'a>(iter: &mut impl DigitsIter<'a>) -> Option<u8> {
+    iter.next().copied()
+}
+
+/// Never inlined, for the same reason.
+#[inline(never)]
+fn read<'a>(iter: &mut impl DigitsIter<'a>, value: u8) -> Option<u8> {
+    iter.read_if_value_cased(value)
+}
+
+/// One turn of the loop in the crate's `skip_zeros`.
+fn read_zero<'a>(iter: &mut impl DigitsIter<'a>) -> Option<u8> {
+    let byte = read(iter, b'0');
+    if byte.is_some() {
+        iter.increment_count();
+    }
+    byte
+}
