@@ -1,6 +1,6 @@
 # make run    replay the recorded answers of the Rust crate through the proved library
 # make test   the gate: prove everything, refuse every must-fail edit, run every program and comparison
-# make bench  the checks beside the Rust crate, ns per word
+# make bench  the library beside the Rust crate, from one driver
 # make lib    target/staticlib/libexport.a, for Rust and C to link (header: include/pawhetino.h)
 
 RT := $(shell tools/find-rt)
