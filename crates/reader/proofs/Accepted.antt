@@ -6,8 +6,7 @@ use mathlib.Core.Option.{some}
 use Prim.Native.Nat.{ℕ, _<_}
 use native.Mathlib.Omega.{arith}
 use Rattle.word.specs.declared.format_flags.Format.{Format}
-use Rattle.word.specs.Word.{flag, digitSeparator, mantissaRadix}
-use Rattle.word.specs.Digit.{isDigit}
+use Rattle.word.specs.Word.{flag, digitSeparator}
 use Rattle.word.specs.Check.{consecutiveAlone, fullCheck}
 use Rattle.word.proofs.Accepted.{separator-no-digit, none-alone}
 use Rattle.reader.specs.declared.state.Reader.{Reader}
@@ -28,7 +27,7 @@ module _ (f : Format) (accepted : fullCheck f ≡ 0) where
   a-separator : (r : Reader) (b : ℕ) → isSeparator (readingOf f r .separator) b ≡ true → neighbourOf (readingOf f r) (some b) ≡ aSeparator
   unfolding neighbourOf readingWith syntaxOf
   a-separator r b e =
-      let no-digit : isDigit b (mantissaRadix f) ≡ false = rw (separator-is (digitSeparator f) b e) (separator-no-digit f accepted) in
+      let no-digit : readingOf f r .digit b ≡ false = rw (separator-is (digitSeparator f) b e) (separator-no-digit f accepted) in
       rw (no-digit, e)
 
   settles-accepted : (r : Reader) → Settles (readingOf f r)

@@ -1,4 +1,5 @@
 -- `reader::passing::landing` meets its contract. Assumes nothing.
+use mathlib.Core.Path.{_≡_}
 use native.Mathlib.Omega.{arith}
 use Rattle.reader.proofs.Places.{no-separator, no-separator-at-all}
 use Rattle.reader.proofs.Landings.{stays-at-end, stays-on-other, stays-by-rule, passes-one, passes-run}
@@ -16,7 +17,9 @@ returns-2 : tie.Need-returns-2
 returns-2 c = (stays-on-other _ _ _ _ (omega arith) (no-separator _ _ (c .if2 .taken)), search needs)
 
 returns-3 : tie.Need-returns-3
-returns-3 c = (stays-on-other _ _ _ _ (omega arith) (no-separator-at-all _ _ (c .if3 .taken)), search needs)
+returns-3 c =
+    let none : c .before .before .before .before .before .args .syntax .separator ≡ 0 = omega (arith, c .if3 .taken) in
+    (stays-on-other _ _ _ _ (omega arith) (no-separator-at-all _ _ none), search needs)
 
 passes-requires : tie.Need-passes-requires
 passes-requires c κs = search needs

@@ -1,9 +1,10 @@
 -- `reader::skip::past_byte` meets its contract: only a digit of a reader with a flag is counted. Assumes nothing.
-use mathlib.Core.Path.{_∙_, sym}
+use mathlib.Core.Path.{_≡_, _∙_, sym}
+use mathlib.Core.Bool.{true, _&&_}
 use native.Mathlib.Omega.{arith}
 use Rattle.word.proofs.Digits.{lent-table}
 use Rattle.reader.specs.State.{movedTo}
-use Rattle.reader.specs.Reading.{readingWith}
+use Rattle.reader.specs.Reading.{readingWith, hasAnyFlag}
 use borrow.Author.Needs.{needs}
 use Rattle.reader.proofs.skip.past_byte.Statement.{statement}
 use Rattle.reader.proofs.skip.past_byte.Tie as tie
@@ -29,10 +30,11 @@ returns c =
     let d = c .before .before in
     let m = d .before .before .before .before .before in
     let a = m .before .before .args in
+    let counts : (hasAnyFlag (a .syntax .flags) && d .char-is-digit-in .result) ≡ true = c .before .if1 .taken in
     rw (
       sym (lent-table (a .values .now) (a .b) (a .syntax .radix) (m .before .before .pre .0) (search needs)),
       sym (d .char-is-digit-in .ensures),
-      c .before .if1 .taken,
+      counts,
     )
     (c .counted .ensures ∙ rw (m .moved .ensures))
 

@@ -1,5 +1,6 @@
 -- `word::format_flags::radix_from_flags` meets its contract: the field, or the mantissa radix where it is 0. Assumes nothing.
-use mathlib.Core.Path.{sym, _∙_}
+use mathlib.Core.Path.{_≡_, sym}
+use native.Mathlib.Omega.{arith}
 use borrow.Author.Needs.{needs}
 use borrow.Author.Tests.{eq-eqb, ne-eqb}
 use Rattle.word.specs.Word.{radixAt}
@@ -17,7 +18,9 @@ cast-result c = search needs
 
 returns : tie.Need-returns
 unfolding radixAt
-returns c = rw (sym (c .before .before .byte-at .ensures), eq-eqb _ _ (c .before .if1 .taken)) (c .mantissa-radix .ensures)
+returns c =
+    let absent : c .before .before .byte-at .result ≡ 0 = omega (arith, c .before .if1 .taken) in
+    rw (sym (c .before .before .byte-at .ensures), eq-eqb _ 0 absent) (c .mantissa-radix .ensures)
 
 returns-2 : tie.Need-returns-2
 unfolding radixAt
