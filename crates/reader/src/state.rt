@@ -149,17 +149,23 @@ pub(crate) fn with_count(state: State, reader: Reader, count: usize) -> State
     next
 }
 
+// The special reader counts nothing.
+fn is_counted(reader: Reader) -> bool
+    ensures { λ r. ⌜ r ≡ isCounted reader ⌝ }
+{
+    match reader {
+        Reader::Integer => true,
+        Reader::Fraction => true,
+        Reader::Exponent => true,
+        Reader::Special => false,
+    }
+}
+
 // Whether a reader counts the digits that it takes: with any flag, and if it counts at all.
 pub(crate) fn counts_digits(flags: Flags, reader: Reader) -> bool
     ensures { λ r. ⌜ r ≡ (hasAnyFlag flags && isCounted reader) ⌝ }
 {
-    let any = flags.internal | flags.leading | flags.trailing | flags.consecutive;
-    match reader {
-        Reader::Integer => any & true,
-        Reader::Fraction => any & true,
-        Reader::Exponent => any & true,
-        Reader::Special => any & false,
-    }
+    (flags.internal | flags.leading | flags.trailing | flags.consecutive) & is_counted(reader)
 }
 
 // Whether the counts together are within the cursor. Nothing is added up, so nothing can overflow.
@@ -226,17 +232,6 @@ pub(crate) fn admit(s: &[u8], state: State, flags: Flags, reader: Reader) -> Adm
             line(!alone, consecutive_refusal(reader), Admission::Admitted),
         ),
     )
-}
-
-fn is_counted(reader: Reader) -> bool
-    ensures { λ r. ⌜ r ≡ isCounted reader ⌝ }
-{
-    match reader {
-        Reader::Integer => true,
-        Reader::Fraction => true,
-        Reader::Exponent => true,
-        Reader::Special => false,
-    }
 }
 
 // The refusal of the first tests, else what the tests after them say.

@@ -3,31 +3,11 @@ use borrow.Author.Needs.{needs}
 use Rattle.reader.proofs.state.counts_digits.Statement.{statement}
 use Rattle.reader.proofs.state.counts_digits.Tie as tie
 
-enum-told : tie.Need-enum-told
-enum-told c = search needs
-
-enum-told-2 : tie.Need-enum-told-2
-enum-told-2 c = search needs
-
-enum-told-3 : tie.Need-enum-told-3
-enum-told-3 c = search needs
-
-enum-told-4 : tie.Need-enum-told-4
-enum-told-4 c = search needs
+is-counted-requires : tie.Need-is-counted-requires
+is-counted-requires c κs = search needs
 
 returns : tie.Need-returns
-returns c = rw (c .enum-told .given .1)
-
-returns-2 : tie.Need-returns-2
-returns-2 c = rw (c .enum-told2 .given .1)
-
-returns-3 : tie.Need-returns-3
-returns-3 c = rw (c .enum-told3 .given .1)
-
-returns-4 : tie.Need-returns-4
-returns-4 c = rw (c .enum-told4 .given .1)
+returns c = rw (c .is-counted .ensures)
 
 pub counts-digits-spec : {M : Type 1} → statement M
-counts-digits-spec =
-    tie.close
-    (tie.spec enum-told enum-told-2 enum-told-3 enum-told-4 returns returns-2 returns-3 returns-4)
+counts-digits-spec = tie.close (tie.spec is-counted-requires returns)
