@@ -9,7 +9,7 @@ use Rattle.reader.specs.declared.state.State.{State}
 use Rattle.reader.specs.Reading.{readingOf}
 use Rattle.reader.specs.Block.{partAt, takeNOf, takeNPart}
 use Rattle.export.specs.declared.block.PartReply.{PartReply}
-use Rattle.export.specs.Reply.{readerOf}
+use Rattle.reader.specs.State.{readerNamed}
 use Rattle.export.specs.Block.{partStart, partLength, partWritten, blockTakenBy, partTakenBy}
 
 -- the bytes of a buffer at a place that was told
@@ -23,7 +23,7 @@ bytes-of-block s cursor (some k) = refl
 -- for every reader byte, buffer, state and n
 pub part-told : (n : ℕ) (s : List ℕ) (st : State) (k : ℕ) → bytesAt s (partWritten (st .cursor) (blockTakenBy n s st k)) ≡ partTakenBy n s st k
 unfolding partWritten blockTakenBy partTakenBy takeNPart
-part-told n s st k = go (readerOf n) refl where
-  go : (by : Option Reader) → readerOf n ≡ by → bytesAt s (partWritten (st .cursor) (blockTakenBy n s st k)) ≡ partTakenBy n s st k
+part-told n s st k = go (readerNamed n) refl where
+  go : (by : Option Reader) → readerNamed n ≡ by → bytesAt s (partWritten (st .cursor) (blockTakenBy n s st k)) ≡ partTakenBy n s st k
   go none e = rw e
   go (some r) e = rw e (bytes-of-block s (st .cursor) (takeNOf (readingOf (st .format) r) s st r k .block))

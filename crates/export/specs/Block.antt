@@ -9,7 +9,8 @@ use Rattle.reader.specs.Block.{refusedBlock, takeNOf, takeNPart}
 use Rattle.export.specs.declared.block.BlockReply.{BlockReply}
 use Rattle.export.specs.declared.block.PartReply.{PartReply}
 use Rattle.export.specs.Numbers.{numbersOf, numbersHeld}
-use Rattle.export.specs.Reply.{readerOf, byReader}
+use Rattle.reader.specs.State.{readerNamed}
+use Rattle.export.specs.Reply.{byReader}
 
 -- whether there is a block
 abbrev pub hasBlock : Option ℕ → ℕ
@@ -36,10 +37,10 @@ partWritten cursor o =
 
 -- A block take by the reader that a byte names, and its part; a byte that names none has an empty part.
 unfoldable pub blockTakenBy : ℕ → List ℕ → State → ℕ → BlockOutcome
-blockTakenBy n s st k = byReader (readerOf n) (refusedBlock 19 st) (λ r. takeNOf (readingOf (st .format) r) s st r k)
+blockTakenBy n s st k = byReader (readerNamed n) (refusedBlock 19 st) (λ r. takeNOf (readingOf (st .format) r) s st r k)
 
 unfoldable pub partTakenBy : ℕ → List ℕ → State → ℕ → List ℕ
-partTakenBy n s st k = byReader (readerOf n) [] (λ r. takeNPart (readingOf (st .format) r) s st r k)
+partTakenBy n s st k = byReader (readerNamed n) [] (λ r. takeNPart (readingOf (st .format) r) s st r k)
 
 -- the number returned and what the caller then has behind its pointers
 abbrev pub blockHeld : (number cursor integer fraction exponent found taken passed : ℕ) → BlockReply

@@ -9,12 +9,11 @@ use Rattle.word.specs.ByteSet.{member}
 use Rattle.reader.specs.declared.state.Reader.{Reader}
 use Rattle.reader.specs.declared.state.Reader.the-variants.{Integer, Fraction, Exponent, Special}
 use Rattle.reader.specs.declared.state.State.{State}
+use Rattle.reader.specs.State.{readerNamed}
 use Rattle.reader.specs.Answer.{Outcome, CountOutcome}
 use Rattle.reader.specs.Plain.{PlainOutcome, plainPeekOf, plainNextOf}
 use Rattle.reader.specs.Reading.{readingOf}
 use Rattle.reader.specs.Calls.{peekOf, nextOf, nextAllOf, readIfOf, currentCountOf, refused}
-use Rattle.export.specs.declared.reply.Named.{Named}
-use Rattle.export.specs.declared.reply.Named.the-variants as named
 use Rattle.export.specs.declared.reply.Reply.{Reply}
 use Rattle.export.specs.declared.reply.FullReply.{FullReply}
 use Rattle.export.specs.declared.reply.CountReply.{CountReply}
@@ -22,15 +21,6 @@ use Rattle.export.specs.declared.reply.Call.{Call}
 use Rattle.export.specs.declared.reply.Call.the-variants as call
 use Rattle.export.specs.declared.reply.PlainCall.{PlainCall}
 use Rattle.export.specs.declared.reply.PlainCall.the-variants as plain
-
--- the reader that a byte names
-unfoldable pub readerOf : ℕ → Option Reader
-readerOf n =
-    cond (eqb n 0) (some Integer) (cond (eqb n 1) (some Fraction) (cond (eqb n 2) (some Exponent) (cond (eqb n 3) (some Special) none)))
-
-abbrev pub namedReader : Named → Option Reader
-namedReader (named.Known r) = some r
-namedReader named.Unknown = none
 
 -- the state whose numbers are these
 abbrev pub stateOf : ℕ → ℕ → ℕ → ℕ → ℕ → ℕ → State
@@ -92,7 +82,7 @@ byReader none refusal answer = refusal
 byReader (some r) refusal answer = answer r
 
 unfoldable pub calledBy : ℕ → Call → List ℕ → State → Outcome
-calledBy n asked s st = byReader (readerOf n) (refused 19 st) (callOf asked s st)
+calledBy n asked s st = byReader (readerNamed n) (refused 19 st) (callOf asked s st)
 
 -- a plain call, whose outcome does not depend on the reader
 unfoldable pub plainCallOf : PlainCall → List ℕ → ℕ → PlainOutcome
@@ -103,12 +93,12 @@ abbrev pub plainRefused : ℕ → ℕ → PlainOutcome
 plainRefused number at = record { refusal = number; byte = none; taken = 0; passed = 0; cursor = at }
 
 unfoldable pub plainCalledBy : ℕ → PlainCall → List ℕ → ℕ → PlainOutcome
-plainCalledBy n asked s at = byReader (readerOf n) (plainRefused 19 at) (λ r. plainCallOf asked s at)
+plainCalledBy n asked s at = byReader (readerNamed n) (plainRefused 19 at) (λ r. plainCallOf asked s at)
 
 -- the count that is shown
 unfoldable pub countedFor : ℕ → List ℕ → State → CountOutcome
 countedFor n s st =
-    byReader (readerOf n) (record { refusal = 19; count = none }) (λ r. currentCountOf (readingOf (st .format) r) s st r)
+    byReader (readerNamed n) (record { refusal = 19; count = none }) (λ r. currentCountOf (readingOf (st .format) r) s st r)
 
 -- a count as it is written where its place has `old`
 abbrev pub countWritten : ℕ → CountOutcome → CountReply

@@ -7,7 +7,8 @@ use Rattle.reader.specs.Reading.{readingOf}
 use Rattle.reader.specs.ZeroSkip.{refusedSkip, skipZerosOf}
 use Rattle.export.specs.declared.zeros.SkipReply.{SkipReply}
 use Rattle.export.specs.Numbers.{numbersOf, numbersHeld}
-use Rattle.export.specs.Reply.{readerOf, byReader, orOld}
+use Rattle.reader.specs.State.{readerNamed}
+use Rattle.export.specs.Reply.{byReader, orOld}
 
 -- an outcome as it is written where the place for the zeros has `old`
 unfoldable pub skipWritten : ℕ → SkipOutcome → SkipReply
@@ -16,7 +17,7 @@ skipWritten old o =
 
 -- a zero skip by the reader that a byte names
 unfoldable pub skippedBy : ℕ → List ℕ → State → SkipOutcome
-skippedBy n s st = byReader (readerOf n) (refusedSkip 19 st) (λ r. skipZerosOf (readingOf (st .format) r) s st r)
+skippedBy n s st = byReader (readerNamed n) (refusedSkip 19 st) (λ r. skipZerosOf (readingOf (st .format) r) s st r)
 
 -- the number returned and what the caller then has behind its pointers
 abbrev pub skipHeld : (number cursor integer fraction exponent zeros taken passed : ℕ) → SkipReply

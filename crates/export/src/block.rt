@@ -6,13 +6,13 @@ ghost use Rattle.export.specs.Block.{blockWritten, partWritten, blockTak
 use crate::numbers::Numbers;
 use crate::numbers::numbers_of;
 use crate::numbers::put_numbers;
-use crate::reply::Named;
-use crate::reply::reader_of;
 use crate::reply::state_of;
 use reader::skip::Block;
 use reader::skip::BlockAnswer;
 use reader::skip::take_n;
+use reader::state::Named;
 use reader::state::State;
+use reader::state::reader_named;
 
 // What is returned and written: besides the numbers, whether there is a block.
 pub struct BlockReply {
@@ -77,7 +77,7 @@ fn part_of(answer: BlockAnswer, cursor: usize) -> PartReply
 fn called(s: &[u8], state: State, reader: u8, n: usize) -> BlockReply
     ensures { λ r. ⌜ r ≡ blockWritten (blockTakenBy reader (now (s .entry)) state n) ⌝ }
 {
-    let by = reader_of(reader);
+    let by = reader_named(reader);
     match by {
         Named::Known(x) => reply_of(take_n(s, state, x, n)),
         Named::Unknown => {
@@ -91,7 +91,7 @@ fn called(s: &[u8], state: State, reader: u8, n: usize) -> BlockReply
 pub(crate) fn part(s: &[u8], state: State, reader: u8, n: usize) -> PartReply
     ensures { λ r. ⌜ r ≡ partWritten (state .cursor) (blockTakenBy reader (now (s .entry)) state n) ⌝ }
 {
-    let by = reader_of(reader);
+    let by = reader_named(reader);
     match by {
         Named::Known(x) => part_of(take_n(s, state, x, n), state.cursor),
         Named::Unknown => PartReply {

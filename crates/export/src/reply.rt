@@ -3,7 +3,7 @@
 ghost use mathlib.Core.Path.{_≡_};
 ghost use Rattle.reader.specs.Answer.{outcomeOf, readOutcomeOf, countOutcomeOf, seenNumber, seenByte, readNumber, readByte};
 ghost use Rattle.reader.specs.Plain.{plainOutcomeOf, plainNumber, plainByte};
-ghost use Rattle.export.specs.Reply.{readerOf, namedReader, stateOf, plainWritten, written, callOf, calledBy, plainCallOf, plainCalledBy, countedFor, countWritten, plainHeld, held};
+ghost use Rattle.export.specs.Reply.{stateOf, plainWritten, written, callOf, calledBy, plainCallOf, plainCalledBy, countedFor, countWritten, plainHeld, held};
 use reader::iterator::Read;
 use reader::iterator::ReadAnswer;
 use reader::noskip;
@@ -14,17 +14,13 @@ use reader::skip::Told;
 use reader::state::ExponentCount;
 use reader::state::FractionCount;
 use reader::state::IntegerCount;
+use reader::state::Named;
 use reader::state::Reader;
 use reader::state::Refusal;
 use reader::state::State;
+use reader::state::reader_named;
 use word::byte_set::ByteSet;
 use word::format_flags::Format;
-
-// The reader that a byte names.
-pub enum Named {
-    Known(Reader),
-    Unknown,
-}
 
 // Which call is asked for.
 pub enum Call {
@@ -84,18 +80,6 @@ pub(crate) fn state_of(
     }
 }
 
-pub(crate) fn reader_of(reader: u8) -> Named
-    ensures { λ r. ⌜ namedReader r ≡ readerOf reader ⌝ }
-{
-    match reader {
-        0 => Named::Known(Reader::Integer),
-        1 => Named::Known(Reader::Fraction),
-        2 => Named::Known(Reader::Exponent),
-        3 => Named::Known(Reader::Special),
-        _ => Named::Unknown,
-    }
-}
-
 // A count as numbers. A refusal keeps the old count.
 fn count_reply(count: Count, old: usize) -> CountReply
     ensures { λ r. ⌜ r ≡ countWritten old (countOutcomeOf count) ⌝ }
@@ -115,7 +99,7 @@ fn count_reply(count: Count, old: usize) -> CountReply
 pub(crate) fn current_count(s: &[u8], state: State, reader: u8, old: usize) -> CountReply
     ensures { λ r. ⌜ r ≡ countWritten old (countedFor reader (now (s .entry)) state) ⌝ }
 {
-    let by = reader_of(reader);
+    let by = reader_named(reader);
     match by {
         Named::Known(x) => count_reply(reader::skip::current_count(s, state, x), old),
         Named::Unknown => CountReply {
@@ -246,7 +230,7 @@ fn answered(call: Call, s: &[u8], state: State, reader: Reader) -> Answer
 fn called(call: Call, s: &[u8], state: State, reader: u8, old: u8) -> FullReply
     ensures { λ r. ⌜ r ≡ written old (calledBy reader call (now (s .entry)) state) ⌝ }
 {
-    let by = reader_of(reader);
+    let by = reader_named(reader);
     match by {
         Named::Known(x) => reply_of(answered(call, s, state, x), old),
         Named::Unknown => {
@@ -334,7 +318,7 @@ fn plain_answered(call: PlainCall, s: &[u8], at: usize, reader: Reader) -> noski
 fn plain_called(call: PlainCall, s: &[u8], at: usize, reader: u8, old: u8) -> Reply
     ensures { λ r. ⌜ r ≡ plainWritten old (plainCalledBy reader call (now (s .entry)) at) ⌝ }
 {
-    let by = reader_of(reader);
+    let by = reader_named(reader);
     match by {
         Named::Known(x) => reply_of_plain(plain_answered(call, s, at, x), old),
         Named::Unknown => unknown(at, old),

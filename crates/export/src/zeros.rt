@@ -6,12 +6,12 @@ ghost use Rattle.export.specs.Zeros.{skipWritten, skippedBy, skipHeld};
 use crate::numbers::Numbers;
 use crate::numbers::numbers_of;
 use crate::numbers::put_numbers;
-use crate::reply::Named;
-use crate::reply::reader_of;
 use crate::reply::state_of;
 use reader::iterator::SkipAnswer;
 use reader::iterator::Skipped;
+use reader::state::Named;
 use reader::state::State;
+use reader::state::reader_named;
 
 // What is returned and written: besides the numbers, how many zeros were taken.
 pub struct SkipReply {
@@ -43,7 +43,7 @@ fn reply_of(answer: SkipAnswer, old: usize) -> SkipReply
 fn called(s: &[u8], state: State, reader: u8, old: usize) -> SkipReply
     ensures { λ r. ⌜ r ≡ skipWritten old (skippedBy reader (now (s .entry)) state) ⌝ }
 {
-    let by = reader_of(reader);
+    let by = reader_named(reader);
     match by {
         Named::Known(x) => reply_of(reader::iterator::skip_zeros(s, state, x), old),
         Named::Unknown => {

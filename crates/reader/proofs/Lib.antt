@@ -1,4 +1,5 @@
 pub mod Tests
+pub mod Naming
 pub mod Looking
 pub mod Admission
 pub mod Blocks

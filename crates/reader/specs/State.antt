@@ -1,9 +1,13 @@
 -- The state of a cursor (document 01, "Passing"): the word, the cursor and the three digit counts. Assumes nothing.
 use Prim.Native.Nat.{ℕ, _+_}
-use mathlib.Core.Bool.{Bool, true, false}
+use mathlib.Core.Bool.{Bool, true, false, cond}
+use mathlib.Core.Option.{Option, some, none}
+use lib.Dec.{eqb}
 use Rattle.word.specs.declared.format_flags.Format.{Format}
 use Rattle.reader.specs.declared.state.Reader.{Reader}
 use Rattle.reader.specs.declared.state.Reader.the-variants.{Integer, Fraction, Exponent, Special}
+use Rattle.reader.specs.declared.state.Named.{Named}
+use Rattle.reader.specs.declared.state.Named.the-variants as named
 use Rattle.reader.specs.declared.state.State.{State}
 
 -- "Fresh": cursor and three counts 0
@@ -16,6 +20,15 @@ readerNumber Integer = 0
 readerNumber Fraction = 1
 readerNumber Exponent = 2
 readerNumber Special = 3
+
+-- the reader that a number names, and what the cases of `Named` say of it
+unfoldable pub readerNamed : ℕ → Option Reader
+readerNamed n =
+    cond (eqb n 0) (some Integer) (cond (eqb n 1) (some Fraction) (cond (eqb n 2) (some Exponent) (cond (eqb n 3) (some Special) none)))
+
+abbrev pub namedReader : Named → Option Reader
+namedReader (named.Known r) = some r
+namedReader named.Unknown = none
 
 -- the reader's own count; the special reader counts nothing
 unfoldable pub countOf : State → Reader → ℕ

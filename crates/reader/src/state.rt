@@ -4,7 +4,7 @@ ghost use mathlib.Core.Bool.{cond, _&&_};
 ghost use Rattle.reader.specs.Reading.{hasAnyFlag};
 ghost use Prim.Native.Nat.{_+_, _<_, _^_};
 ghost use lib.Dec.{eqb, leb};
-ghost use Rattle.reader.specs.State.{freshOf, isCounted, countOf, countSum, movedTo, countedBy, withCount};
+ghost use Rattle.reader.specs.State.{namedReader, readerNamed, freshOf, isCounted, countOf, countSum, movedTo, countedBy, withCount};
 ghost use Rattle.reader.specs.Answer.{numberOf, admissionNumber};
 ghost use Rattle.reader.specs.Calls.{consecutiveNumber, placeRefusal, refusalWith};
 ghost use Rattle.reader.specs.ZeroSkip.{skipRefusal};
@@ -18,6 +18,12 @@ pub enum Reader {
     Fraction,
     Exponent,
     Special,
+}
+
+// The reader that a number names.
+pub enum Named {
+    Known(Reader),
+    Unknown,
 }
 
 // The digits counted by each reader: a type each, so that none stands for another.
@@ -63,6 +69,18 @@ impl Refusal {
             Refusal::ConsecutiveFraction => 13,
             Refusal::ConsecutiveExponent => 14,
         }
+    }
+}
+
+pub fn reader_named(number: u8) -> Named
+    ensures { λ r. ⌜ namedReader r ≡ readerNamed number ⌝ }
+{
+    match number {
+        0 => Named::Known(Reader::Integer),
+        1 => Named::Known(Reader::Fraction),
+        2 => Named::Known(Reader::Exponent),
+        3 => Named::Known(Reader::Special),
+        _ => Named::Unknown,
     }
 }
 
