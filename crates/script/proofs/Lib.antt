@@ -1,0 +1,9 @@
+pub mod Decimals
+pub mod Writing
+pub mod Bodies
+pub mod Showing
+pub mod Responses
+pub mod Parts
+pub mod Answering
+pub mod Streaming
+pub mod Example

@@ -1,0 +1,66 @@
+-- Responses to one record, from what the code wrote and how far it says the run is. Assumes nothing.
+use mathlib.Core.Path.{_≡_, refl, _∙_, ap, sym}
+use mathlib.Core.List.{List, [], _∷_, _++_}
+use Prim.Native.Nat.{ℕ, _+_, _-_, _≤_, _<_}
+use native.Mathlib.Omega.{arith}
+use native.Mathlib.Numerals.{add-one}
+use borrow.Author.Tests.{lt-ltb, le-ltb}
+use lib.Dec.{ltb}
+use lib.ListN.{length, take, set, length-take}
+use lib.Seq.{take-suc-set}
+use Rattle.reader.specs.declared.state.Reader.{Reader}
+use Rattle.reader.specs.declared.state.State.{State}
+use Rattle.reader.specs.Reading.{readingOf}
+use Rattle.reader.specs.History.{answerTo}
+use Rattle.script.specs.declared.call.Reply.{Reply}
+use Rattle.script.specs.declared.run.Stage.{Stage}
+use Rattle.script.specs.declared.run.Stage.the-variants as stage
+use Rattle.script.specs.declared.run.Response.{Response as Response'}
+use Rattle.script.specs.declared.record.Call.{Call}
+use Rattle.script.specs.declared.record.Call.the-variants as call
+use Rattle.script.specs.declared.refusal.Refusal.the-variants as refusal
+use Rattle.script.specs.Line.{Wrote}
+use Rattle.script.specs.Reply.{callBy, callNumber, replyOf, replyLine}
+use Rattle.script.specs.Run.{Response, Responds, runIn, stops, addText, callResponse}
+use Rattle.script.proofs.Writing.{wrote-as, wrote-nothing}
+
+pub responds : {response : Response} {buffer before after : List ℕ} {at end : ℕ} {answer : Response'} {stage : Stage}
+    → answer ≡ record { stage = stage; end = end } → Wrote before at (response .line) after end → runIn buffer stage ≡ response .run
+    → Responds response buffer before at after answer
+responds e w g = rw e (record { wrote = w; goes-on = g })
+
+module _ (text : List ℕ) (n b : ℕ) (whole : length text ≡ 4096) where
+  pub text-added : (out : List ℕ) (at : ℕ) (answer : Response') → n < 4096 → answer ≡ record { stage = stage.Gathering (n + 1); end = at }
+      → Responds (addText (take n text) b) (set text n b) out at out answer
+  text-added out at answer room e =
+      let fits : length (take n text) < 4096 = simp length-take (omega (arith, room, whole)) in
+      rw (lt-ltb (length (take n text)) 4096 fits)
+      (responds {stage = stage.Gathering (n + 1)} e (wrote-nothing out at) (rw (add-one n, take-suc-set text n b (omega (arith, room, whole)))))
+
+  pub text-full : {buffer out out' : List ℕ} {at : ℕ} {answer : Response'} → 4096 ≤ n
+      → Responds (stops refusal.TextFull) buffer out at out' answer → Responds (addText (take n text) b) buffer out at out' answer
+  text-full none r =
+      let full : 4096 ≤ length (take n text) = simp length-take (omega (arith, none, whole)) in
+      rw (le-ltb (length (take n text)) 4096 full) r
+
+-- every call's kind is one digit
+pub call-digit : (asked : Call) → callNumber asked < 10
+call-digit call.Peek = omega arith
+call-digit call.Take = omega arith
+call-digit (call.Read value) = omega arith
+call-digit call.ZeroSkip = omega arith
+call-digit (call.Block n) = omega arith
+
+-- the part of a buffer from 0 to k has k - 0 bytes
+module _ (buffer : List ℕ) (k n : ℕ) (st : State) (r : Reader) (asked : Call) (reply : Reply)
+    (same : take k buffer ≡ take n buffer)
+    (told : reply ≡ replyOf (answerTo readingOf (take (k - 0) buffer) st (callBy asked r)))
+  where
+    pub call-responds : {out after : List ℕ} {at end kind : ℕ} {answer : Response'} → kind ≡ callNumber asked
+        → Wrote out at (replyLine kind reply) after end → answer ≡ record { stage = stage.Opened n (reply .state); end = end }
+        → Responds (callResponse (take n buffer) st r asked) buffer out at after answer
+    unfolding callResponse
+    call-responds e w answered =
+        let all : k - 0 ≡ k = omega arith in
+        let reply-told : reply ≡ replyOf (answerTo readingOf (take n buffer) st (callBy asked r)) = rw (all, same) at told in
+        responds answered (wrote-as w (rw (e, reply-told)) refl) (rw reply-told)

@@ -1,0 +1,32 @@
+-- `script::line::reply_line` meets its contract. Assumes nothing.
+use mathlib.Core.Path.{refl}
+use Rattle.script.specs.Reply.{replyLine}
+use Rattle.script.proofs.Decimals.{digit-alone}
+use Rattle.script.proofs.Writing.{wrote-then, wrote-as}
+use borrow.Author.Needs.{needs}
+use Rattle.script.proofs.line.reply_line.Statement.{statement}
+use Rattle.script.proofs.line.reply_line.Tie as tie
+
+add-put : tie.Need-add-put
+add-put c = search needs
+
+put-requires : tie.Need-put-requires
+put-requires c κs = search needs
+
+reply-fields-requires : tie.Need-reply-fields-requires
+reply-fields-requires c κs = search needs
+
+same-length : tie.Need-same-length
+same-length c = search needs
+
+returns : tie.Need-returns
+unfolding replyLine
+returns c =
+    wrote-as
+    (wrote-then (c .before .before .before .before .before .before .put .ensures) (c .before .before .reply-fields .ensures))
+    (rw (digit-alone (c .before .before .before .before .before .before .before .before .before .args .kind) (c .before .before .before .before .before .before .before .before .before .pre .0)))
+    refl
+
+pub reply-line-spec : {M : Type 1} → statement M
+reply-line-spec =
+    tie.close (tie.spec add-put put-requires reply-fields-requires same-length returns)

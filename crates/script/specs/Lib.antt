@@ -1,0 +1,6 @@
+pub mod Decimal
+pub mod Line
+pub mod Record
+pub mod Reply
+pub mod Run
+pub mod Script

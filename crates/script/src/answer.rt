@@ -1,0 +1,121 @@
+// Record after record of an input that arrives in parts.
+ghost use mathlib.Core.Path.{_≡_};
+ghost use mathlib.Core.Bool.{cond};
+ghost use Prim.Native.Nat.{_+_, _≤_, min};
+ghost use lib.Dec.{ltb};
+ghost use lib.ListN.{length};
+ghost use Rattle.script.specs.declared.record.Record.the-variants.{CutShort};
+ghost use Rattle.script.specs.Record.{bodyLength, wholeRecord};
+ghost use Rattle.script.specs.Run.{runIn, isStopped, Responds};
+ghost use Rattle.script.specs.Script.{responseAt, isDue, GoesAsFar, Answers};
+use crate::line::LONGEST;
+use crate::record::Kind;
+use crate::record::Record;
+use crate::record::body_length;
+use crate::record::kind_of;
+use crate::record::whole_record;
+use crate::run::Response;
+use crate::run::Stage;
+use crate::run::respond;
+
+// How far a part of the input is answered: how far the run is, how many bytes of the part were read and how many of the buffer written.
+pub struct Progress {
+    pub stage: Stage,
+    pub used: usize,
+    pub end: usize,
+}
+
+// The record behind a kind, from all that follows of the input.
+fn record_behind(kind: Kind, body: &[u8]) -> Record
+    ensures { λ r. ⌜ r ≡ cond (ltb (length (now (body .entry))) (bodyLength kind)) CutShort (wholeRecord kind (now (body .entry))) ⌝ }
+{
+    let size = body_length(kind);
+    if body.len() < size {
+        return Record::CutShort;
+    }
+    whole_record(kind, body)
+}
+
+// One record: from how far the run is, the text and the record's bytes, of which more may follow, to the next stage, the text and the
+// line's bytes behind those that are written.
+fn answer_record(
+    text: &mut [u8],
+    stage: Stage,
+    kind: u8,
+    rest: &[u8],
+    out: &mut [u8],
+    at: usize,
+) -> Response
+    requires { ⌜ (length (now text) ≡ 4096) × (at + 86 ≤ length (now out)) ⌝ }
+    ensures kept { λ r. ⌜ length (now (text .exit)) ≡ 4096 ⌝ }
+    ensures told { λ r. ⌜ Responds (responseAt (runIn (now (text .entry)) stage) kind (now (rest .entry))) (now (text .exit)) (now (out .entry)) at (now (out .exit)) r ⌝ }
+{
+    let asked = record_behind(kind_of(kind), rest);
+    respond(text, stage, asked, out, at)
+}
+
+fn least(a: usize, b: usize) -> usize
+    ensures { λ r. ⌜ r ≡ min a b ⌝ }
+{
+    if a < b { a } else { b }
+}
+
+pub fn is_stopped(stage: Stage) -> bool
+    ensures { λ r. ⌜ r ≡ isStopped stage ⌝ }
+{
+    match stage {
+        Stage::Gathering(n) => false,
+        Stage::Opened(n, state) => false,
+        Stage::Stopped => true,
+    }
+}
+
+// Whether the next record is answered now: the run goes on, there is room for its line, and its body is there, or no more of it comes.
+fn is_due(stage: Stage, room: usize, ended: bool, size: usize, there: usize) -> bool
+    ensures { λ r. ⌜ r ≡ isDue stage room ended size there ⌝ }
+{
+    if is_stopped(stage) {
+        return false;
+    }
+    if room < LONGEST {
+        return false;
+    }
+    if ended {
+        return true;
+    }
+    size <= there
+}
+
+// Answers records from the start of an input, of which more may come unless it has ended, for as long as they are whole and there is
+// room for their lines.
+pub(crate) fn answer(
+    text: &mut [u8],
+    begun: Stage,
+    input: &[u8],
+    ended: bool,
+    out: &mut [u8],
+) -> Progress
+    requires { ⌜ length (now text) ≡ 4096 ⌝ }
+    ensures kept { λ r. ⌜ (length (now (text .exit)) ≡ 4096) × (length (now (out .exit)) ≡ length (now (out .entry))) ⌝ }
+    ensures far { λ r. ⌜ GoesAsFar (now (input .entry)) ended (length (now (out .exit))) r ⌝ }
+    ensures told { λ r. ⌜ Answers (now (text .entry)) begun (now (input .entry)) ended (now (text .exit)) (now (out .exit)) r ⌝ }
+{
+    let mut stage = begun;
+    let mut used = 0;
+    let mut end = 0;
+    while used < input.len() {
+        let kind = input[used];
+        let body = &input[used + 1..];
+        let size = body_length(kind_of(kind));
+        let there = body.len();
+        if !is_due(stage, out.len() - end, ended, size, there) {
+            break;
+        }
+        let response = answer_record(text, stage, kind, body, out, end);
+        let next = response.stage;
+        stage = next;
+        end = response.end;
+        used = used + 1 + least(there, size);
+    }
+    Progress { stage, used, end }
+}

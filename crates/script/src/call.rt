@@ -1,0 +1,151 @@
+// A call of a reader, and what its line shows of the answer.
+ghost use mathlib.Core.Path.{_≡_};
+ghost use Rattle.reader.specs.Answer.{seenNumber, seenByte, readNumber, readByte, skipNumber, skipZeros, blockNumber, blockBytes};
+ghost use Rattle.reader.specs.Answer.{outcomeOf, readOutcomeOf, skipOutcomeOf, blockOutcomeOf};
+ghost use Rattle.reader.specs.Reading.{readingOf};
+ghost use Rattle.reader.specs.History.{answerTo};
+ghost use Rattle.script.specs.Reply.{callBy, callNumber, orRefused, numberShown, blockShown, outcomeReply, skipReply, blockReply, replyOf};
+use crate::record::Call;
+use reader::iterator::Read;
+use reader::iterator::ReadAnswer;
+use reader::iterator::SkipAnswer;
+use reader::iterator::Skipped;
+use reader::iterator::read_if_value_cased;
+use reader::iterator::skip_zeros;
+use reader::skip::Answer;
+use reader::skip::Block;
+use reader::skip::BlockAnswer;
+use reader::skip::Seen;
+use reader::skip::next;
+use reader::skip::peek;
+use reader::skip::take_n;
+use reader::state::Reader;
+use reader::state::State;
+
+// What stands behind the kind: a number (the byte, or how many zeros), `-`, `none`, or a refusal's number.
+pub enum Shown {
+    Number(usize),
+    Dash,
+    NoBlock,
+    Refused(u32),
+}
+
+pub struct Reply {
+    pub shown: Shown,
+    pub taken: usize,
+    pub passed: usize,
+    pub state: State,
+}
+
+fn seen_shown(seen: Seen) -> Shown
+    ensures { λ r. ⌜ r ≡ orRefused (seenNumber seen) (numberShown (seenByte seen)) ⌝ }
+{
+    match seen {
+        Seen::Byte(b) => Shown::Number(b as usize),
+        Seen::End => Shown::Dash,
+        Seen::Refused(refusal) => Shown::Refused(refusal.number()),
+    }
+}
+
+fn read_shown(read: Read) -> Shown
+    ensures { λ r. ⌜ r ≡ orRefused (readNumber read) (numberShown (readByte read)) ⌝ }
+{
+    match read {
+        Read::Taken(b) => Shown::Number(b as usize),
+        Read::Declined => Shown::Dash,
+        Read::Refused(refusal) => Shown::Refused(refusal.number()),
+    }
+}
+
+fn skip_shown(skipped: Skipped) -> Shown
+    ensures { λ r. ⌜ r ≡ orRefused (skipNumber skipped) (numberShown (skipZeros skipped)) ⌝ }
+{
+    match skipped {
+        Skipped::Zeros(zeros) => Shown::Number(zeros),
+        Skipped::Refused(refusal) => Shown::Refused(refusal.number()),
+    }
+}
+
+fn block_shown(block: Block, taken: usize) -> Shown
+    ensures { λ r. ⌜ r ≡ orRefused (blockNumber block) (blockShown (blockBytes block taken)) ⌝ }
+{
+    match block {
+        Block::Taken => Shown::Dash,
+        Block::None => Shown::NoBlock,
+        Block::Refused(refusal) => Shown::Refused(refusal.number()),
+    }
+}
+
+fn replied(shown: Shown, taken: usize, passed: usize, state: State) -> Reply
+    ensures { λ r. ⌜ r ≡ record { shown = shown; taken = taken; passed = passed; state = state } ⌝ }
+{
+    Reply {
+        shown,
+        taken,
+        passed,
+        state,
+    }
+}
+
+fn seen_reply(a: Answer) -> Reply
+    ensures { λ r. ⌜ r ≡ outcomeReply (outcomeOf a) ⌝ }
+{
+    let told = a.told;
+    let seen = told.seen;
+    replied(seen_shown(seen), told.taken, told.passed, a.state)
+}
+
+fn read_reply(a: ReadAnswer) -> Reply
+    ensures { λ r. ⌜ r ≡ outcomeReply (readOutcomeOf a) ⌝ }
+{
+    let told = a.told;
+    let read = told.read;
+    replied(read_shown(read), told.taken, told.passed, a.state)
+}
+
+fn skip_reply(a: SkipAnswer) -> Reply
+    ensures { λ r. ⌜ r ≡ skipReply (skipOutcomeOf a) ⌝ }
+{
+    let told = a.told;
+    let skipped = told.skipped;
+    replied(skip_shown(skipped), told.taken, told.passed, a.state)
+}
+
+fn block_reply(a: BlockAnswer) -> Reply
+    ensures { λ r. ⌜ r ≡ blockReply (blockOutcomeOf a) ⌝ }
+{
+    let told = a.told;
+    let block = told.block;
+    replied(
+        block_shown(block, told.taken),
+        told.taken,
+        told.passed,
+        a.state,
+    )
+}
+
+// Makes the call, as the word of the state says.
+pub fn made(text: &[u8], state: State, who: Reader, call: Call) -> Reply
+    ensures { λ r. ⌜ r ≡ replyOf (answerTo readingOf (now (text .entry)) state (callBy call who)) ⌝ }
+{
+    match call {
+        Call::Peek => seen_reply(peek(text, state, who)),
+        Call::Take => seen_reply(next(text, state, who)),
+        Call::Read(value) => read_reply(read_if_value_cased(text, state, who, value)),
+        Call::ZeroSkip => skip_reply(skip_zeros(text, state, who)),
+        Call::Block(n) => block_reply(take_n(text, state, who, n as usize)),
+    }
+}
+
+// The kind by which the script knows the call.
+pub fn number(call: Call) -> u8
+    ensures { λ r. ⌜ r ≡ callNumber call ⌝ }
+{
+    match call {
+        Call::Peek => 2,
+        Call::Take => 3,
+        Call::Read(value) => 4,
+        Call::ZeroSkip => 5,
+        Call::Block(n) => 6,
+    }
+}
