@@ -1,7 +1,8 @@
 //! Compares the Rattle library with the Rust crate that it was ported from.
 //!
 //! `test` runs every comparison, `record` writes the crate's answers for a
-//! program without Rust at hand, `bench` times the two side by side.
+//! program without Rust at hand, `bench` times the two side by side. `scripts`
+//! records call scripts likewise, `answer-script` prints the crate's answers to one.
 
 #![deny(unsafe_code)]
 
@@ -16,6 +17,7 @@ mod oracle;
 mod readers;
 mod record;
 mod rng;
+mod script;
 mod timing;
 mod word;
 mod words;
@@ -25,7 +27,8 @@ use std::process::ExitCode;
 /// The seed of every command, unless `test` is given another.
 const SEED: u64 = 0x5041_5748_4554_494E;
 
-const USAGE: &str = "usage: harness test [seed] | bench | record";
+const USAGE: &str =
+    "usage: harness test [seed] | bench | record | scripts | answer-script < SCRIPT";
 
 /// What the program does with its arguments.
 pub fn main() -> ExitCode {
@@ -36,6 +39,8 @@ pub fn main() -> ExitCode {
         ["test", seed] => parse_seed(seed).map_or_else(usage, test),
         ["bench"] => bench::run(SEED),
         ["record"] => record::run(SEED),
+        ["scripts"] => script::record(SEED),
+        ["answer-script"] => script::answer(),
         _ => usage(),
     }
 }

@@ -1,14 +1,14 @@
 //! The reader calls: the library's beside the crate's.
 
-mod answer;
+pub mod answer;
 mod bench;
 mod blocks;
-mod call;
+pub mod call;
 mod comparison;
 mod compiled;
 mod counts;
 mod digits;
-mod draw;
+pub mod draw;
 mod examples;
 mod history;
 mod library;
@@ -22,12 +22,12 @@ mod refusal;
 mod refusals;
 mod rules;
 mod runs;
-mod sets;
+pub mod sets;
 mod small;
 mod table;
 mod tally;
 mod walk;
-mod words;
+pub mod words;
 mod written;
 
 pub use bench::run as bench;
