@@ -1,8 +1,9 @@
 //! Compares the Rattle library with the Rust crate that it was ported from.
 //!
 //! `test` runs every comparison, `record` writes the crate's answers for a
-//! program without Rust at hand, `bench` times the two side by side. `scripts`
-//! records call scripts likewise, `answer-script` prints the crate's answers to one.
+//! program without Rust at hand, `bench` times the two side by side. `test-script`
+//! and `scripts` do this for call scripts alone; `answer-script` prints the crate's
+//! answers to one.
 
 #![deny(unsafe_code)]
 
@@ -27,8 +28,8 @@ use std::process::ExitCode;
 /// The seed of every command, unless `test` is given another.
 const SEED: u64 = 0x5041_5748_4554_494E;
 
-const USAGE: &str =
-    "usage: harness test [seed] | bench | record | scripts | answer-script < SCRIPT";
+const USAGE: &str = "usage: harness test [seed] | bench | record
+       harness test-script | scripts | answer-script < SCRIPT";
 
 /// What the program does with its arguments.
 pub fn main() -> ExitCode {
@@ -37,6 +38,7 @@ pub fn main() -> ExitCode {
     match arguments.as_slice() {
         ["test"] => test(SEED),
         ["test", seed] => parse_seed(seed).map_or_else(usage, test),
+        ["test-script"] => run_groups(&[script::compare], SEED),
         ["bench"] => bench::run(SEED),
         ["record"] => record::run(SEED),
         ["scripts"] => script::record(SEED),
@@ -46,14 +48,20 @@ pub fn main() -> ExitCode {
 }
 
 fn test(seed: u64) -> ExitCode {
-    println!("seed 0x{seed:016X}");
     let words: [group::Groups; 3] = [
         |report, _| named::run(report),
         |report, _| digits::run(report),
         checks::run,
     ];
-    let all = [words.as_slice(), readers::GROUPS.as_slice()].concat();
-    group::Report::of_all(&all, seed).finish()
+    run_groups(
+        &[&words, readers::GROUPS.as_slice(), &[script::compare]].concat(),
+        seed,
+    )
+}
+
+fn run_groups(groups: &[group::Groups], seed: u64) -> ExitCode {
+    println!("seed 0x{seed:016X}");
+    group::Report::of_all(groups, seed).finish()
 }
 
 /// Reads a seed as it is printed (hexadecimal after `0x`), or as a decimal.

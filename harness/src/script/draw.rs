@@ -2,7 +2,7 @@
 //! open, calls.
 
 use super::oracle;
-use super::records::Script;
+use super::records::{Script, LONGEST_TEXT};
 use crate::oracle as checks;
 use crate::readers::call::READERS;
 use crate::readers::draw;
@@ -37,6 +37,15 @@ pub fn whole(rng: &mut Rng) -> Script {
     let script = opening(rng, word, &text);
     let count = rng.below(MOST_CALLS + 1);
     calls(rng, script, word, &text, count)
+}
+
+/// A script whose text has nearly as many bytes as it may have, or too many.
+pub fn nearly_full(rng: &mut Rng) -> Script {
+    let word = compiled_word(rng);
+    let length = LONGEST_TEXT - 4 + rng.below(9) as usize;
+    let text: Vec<u8> = (0..length).map(|_| rng.pick(b"12_0x")).collect();
+    let script = opening(rng, word, &text);
+    calls(rng, script, word, &text, 10)
 }
 
 /// Text with up to three refused opens anywhere in it, then an accepted open.
