@@ -1,9 +1,9 @@
 //! Compares the Rattle library with the Rust crate that it was ported from.
 //!
 //! `test` runs every comparison, `record` writes the crate's answers for a
-//! program without Rust at hand, `bench` times the two side by side. `test-script`
-//! and `scripts` do this for call scripts alone; `answer-script` prints the crate's
-//! answers to one.
+//! program without Rust at hand, `bench` times the two side by side. `test-script`,
+//! `scripts` and `bench-script` do this for call scripts alone; `answer-script`
+//! prints the crate's answers to one, `run-script` is the program that is timed.
 
 #![deny(unsafe_code)]
 
@@ -29,7 +29,7 @@ use std::process::ExitCode;
 const SEED: u64 = 0x5041_5748_4554_494E;
 
 const USAGE: &str = "usage: harness test [seed] | bench | record
-       harness test-script | scripts | answer-script < SCRIPT";
+       harness test-script | bench-script | scripts | answer-script < SCRIPT | run-script LINES < SCRIPT";
 
 /// What the program does with its arguments.
 pub fn main() -> ExitCode {
@@ -42,7 +42,9 @@ pub fn main() -> ExitCode {
         ["bench"] => bench::run(SEED),
         ["record"] => record::run(SEED),
         ["scripts"] => script::record(SEED),
+        ["bench-script"] => script::bench(SEED),
         ["answer-script"] => script::answer(),
+        ["run-script", lines] => script::run_in_rust(lines),
         _ => usage(),
     }
 }

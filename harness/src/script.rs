@@ -1,6 +1,7 @@
 //! The call script: the program that runs one, as a process, beside the crate.
 
 mod answer;
+mod bench;
 mod cases;
 mod compare;
 mod damage;
@@ -13,8 +14,11 @@ mod places;
 mod program;
 mod record;
 mod records;
+mod rust;
 mod seen;
 
 pub use answer::run as answer;
+pub use bench::run as bench;
 pub use compare::run as compare;
 pub use record::run as record;
+pub use rust::run as run_in_rust;

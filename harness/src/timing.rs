@@ -55,6 +55,11 @@ impl Timing {
         self.rounds.sort_by(f64::total_cmp);
     }
 
+    /// Units of the work in a second.
+    pub fn per_second(&self) -> f64 {
+        1e9 / self.median()
+    }
+
     /// How many times as long this took.
     pub fn ratio(&self, other: &Self) -> f64 {
         self.median() / other.median()
