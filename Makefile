@@ -11,7 +11,7 @@ RT := $(shell tools/find-rt)
 # What is said while the program is built goes to standard error: standard output is the script's.
 run:
 	@tools/need-rt
-	@$(RT) check script >&2
+	@$(RT) check script >&2 </dev/null
 	@target/bin/script
 
 test:
