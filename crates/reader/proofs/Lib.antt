@@ -1,5 +1,15 @@
 pub mod Tests
 pub mod Naming
+pub mod Walk
+pub mod Close
+pub mod Spelt
+pub mod Kept
+pub mod Shape
+pub mod ShapeWith
+pub mod AnswerTypes
+pub mod Local
+pub mod Lending
+pub mod Parted
 pub mod Looking
 pub mod Admission
 pub mod Blocks

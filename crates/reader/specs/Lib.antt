@@ -8,6 +8,7 @@ pub mod Repeat
 pub mod Calls
 pub mod ZeroSkip
 pub mod Block
+pub mod Bytes
 pub mod History
 pub mod ByteTally
 pub mod Plain

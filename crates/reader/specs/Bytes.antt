@@ -1,0 +1,58 @@
+-- The struct that keeps the caller's slice beside the state (document 01, "Recast from the Rust"): its calls are those of the slice and
+-- the state. Assumes nothing.
+use Prim.Native.Nat.{ℕ}
+use mathlib.Core.List.{List}
+use lib.ListN.{drop}
+use denote.Ref.{RefT, now}
+use Rattle.word.specs.declared.format_flags.Format.{Format}
+use Rattle.word.specs.declared.byte_set.ByteSet.{ByteSet}
+use Rattle.word.specs.ByteSet.{member}
+use Rattle.reader.specs.declared.state.Reader.{Reader}
+use Rattle.reader.specs.declared.state.State.{State}
+use Rattle.reader.specs.declared.bytes.Bytes.{Bytes}
+use Rattle.reader.specs.State.{freshOf}
+use Rattle.reader.specs.Reading.{readingOf}
+use Rattle.reader.specs.Answer.{Outcome, SkipOutcome, BlockOutcome, CountOutcome}
+use Rattle.reader.specs.Calls.{peekOf, nextOf, nextAllOf, readIfOf, currentCountOf}
+use Rattle.reader.specs.ZeroSkip.{skipZerosOf}
+use Rattle.reader.specs.Block.{takeNOf, takeNPart}
+
+-- a slice with a fresh state
+abbrev pub bytesOver : RefT (List ℕ) → Format → Bytes
+bytesOver slc f = record { slc = slc; state = freshOf f }
+
+-- the same slice at another state
+abbrev pub atState : Bytes → State → Bytes
+atState b st = record { slc = b .slc; state = st }
+
+-- what is left of a buffer; nothing, with the cursor past its end
+unfoldable pub restOf : List ℕ → State → List ℕ
+restOf s st = drop (st .cursor) s
+
+abbrev pub peekBytes : Bytes → Reader → Outcome
+peekBytes b r = peekOf (readingOf (b .state .format) r) (now (b .slc)) (b .state) r
+
+abbrev pub nextBytes : Bytes → Reader → Outcome
+nextBytes b r = nextOf (readingOf (b .state .format) r) (now (b .slc)) (b .state) r
+
+abbrev pub nextAllBytes : Bytes → Reader → Outcome
+nextAllBytes b r = nextAllOf (readingOf (b .state .format) r) (now (b .slc)) (b .state) r
+
+abbrev pub countBytes : Bytes → Reader → CountOutcome
+countBytes b r = currentCountOf (readingOf (b .state .format) r) (now (b .slc)) (b .state) r
+
+abbrev pub partBytes : Bytes → Reader → ℕ → List ℕ
+partBytes b r n = takeNPart (readingOf (b .state .format) r) (now (b .slc)) (b .state) r n
+
+abbrev pub skipBytes : Bytes → Reader → SkipOutcome
+skipBytes b r = skipZerosOf (readingOf (b .state .format) r) (now (b .slc)) (b .state) r
+
+abbrev pub readBytes : Bytes → Reader → ByteSet → Outcome
+readBytes b r set = readIfOf (readingOf (b .state .format) r) (now (b .slc)) (b .state) r (member set)
+
+abbrev pub takeNBytes : Bytes → Reader → ℕ → BlockOutcome
+takeNBytes b r n = takeNOf (readingOf (b .state .format) r) (now (b .slc)) (b .state) r n
+
+-- takes to the end of a buffer, from a fresh state
+abbrev pub wholeOutcome : List ℕ → Format → Reader → Outcome
+wholeOutcome s f r = nextAllOf (readingOf f r) s (freshOf f) r

@@ -1,0 +1,137 @@
+// `Bytes`: the caller's slice, kept beside the cursor's state. After lexical-util's Bytes. Each function takes the struct apart and
+// calls one on the slice and the state, which has the work; so the proofs here are walks by hand (proofs/bytes), and short.
+ghost use mathlib.Core.Path.{_≡_};
+ghost use Prim.Native.Nat.{_≤_};
+ghost use lib.ListN.{length, drop};
+ghost use Rattle.reader.specs.Answer.{outcomeOf, readOutcomeOf, skipOutcomeOf, blockOutcomeOf, countOutcomeOf};
+ghost use Rattle.reader.specs.Bytes.{bytesOver, restOf, countBytes, partBytes, peekBytes, nextBytes, nextAllBytes, readBytes, skipBytes, takeNBytes, wholeOutcome};
+use crate::iterator::ReadTold;
+use crate::iterator::SkipTold;
+use crate::skip::BlockTold;
+use crate::skip::Count;
+use crate::skip::Told;
+use crate::state::Reader;
+use crate::state::State;
+use word::byte_set::ByteSet;
+use word::format_flags::Format;
+
+pub struct Bytes<'a> {
+    pub slc: &'a [u8],
+    pub state: State,
+}
+
+// Where the part of a slice from the cursor on starts: at the end, for a cursor past it.
+fn start_of(s: &[u8], cursor: usize) -> usize
+    ensures { λ r. ⌜ (r ≤ length (now (s .entry))) × (drop r (now (s .entry)) ≡ drop cursor (now (s .entry))) ⌝ }
+{
+    if cursor < s.len() { cursor } else { s.len() }
+}
+
+// The part of a slice from the cursor on; empty for a cursor past the end.
+pub fn rest<'a>(s: &'a [u8], state: State) -> &'a [u8]
+    ensures { λ r. ⌜ now r ≡ restOf (now (s .entry)) state ⌝ }
+{
+    let cursor = state.cursor;
+    let start = start_of(s, cursor);
+    &s[start..]
+}
+
+impl<'a> Bytes<'a> {
+    // The slice with the cursor at its start and nothing counted.
+    pub fn new(slc: &'a [u8], format: Format) -> Bytes<'a>
+        ensures { λ r. ⌜ r ≡ bytesOver (slc .entry) format ⌝ }
+    {
+        let state = State::fresh(format);
+        Bytes { slc, state }
+    }
+
+    pub fn cursor(self) -> usize
+        ensures { λ r. ⌜ r ≡ self .entry .state .cursor ⌝ }
+    {
+        self.state.cursor
+    }
+
+    // The whole slice.
+    pub fn get_buffer(self) -> &'a [u8]
+        ensures { λ r. ⌜ r ≡ self .entry .slc ⌝ }
+    {
+        self.slc
+    }
+
+    // What is left of the slice.
+    pub fn as_slice(self) -> &'a [u8]
+        ensures { λ r. ⌜ now r ≡ restOf (now (self .entry .slc)) (self .entry .state) ⌝ }
+    {
+        rest(self.slc, self.state)
+    }
+
+    pub fn current_count(self, reader: Reader) -> Count
+        ensures { λ r. ⌜ countOutcomeOf r ≡ countBytes (self .entry) reader ⌝ }
+    {
+        crate::skip::current_count(self.slc, self.state, reader)
+    }
+
+    // The part that `take_n` takes for the same arguments.
+    pub fn take_n_part(self, reader: Reader, n: usize) -> &'a [u8]
+        ensures { λ r. ⌜ now r ≡ partBytes (self .entry) reader n ⌝ }
+    {
+        crate::skip::take_n_part(self.slc, self.state, reader, n)
+    }
+
+    pub fn peek(&mut self, reader: Reader) -> Told
+        ensures { λ t. ⌜ (outcomeOf (record { told = t; state = now (self .exit) .state }) ≡ peekBytes (now (self .entry)) reader) × (now (self .exit) .slc ≡ now (self .entry) .slc) ⌝ }
+    {
+        let answer = crate::skip::peek(self.slc, self.state, reader);
+        self.state = answer.state;
+        answer.told
+    }
+
+    pub fn next(&mut self, reader: Reader) -> Told
+        ensures { λ t. ⌜ (outcomeOf (record { told = t; state = now (self .exit) .state }) ≡ nextBytes (now (self .entry)) reader) × (now (self .exit) .slc ≡ now (self .entry) .slc) ⌝ }
+    {
+        let answer = crate::skip::next(self.slc, self.state, reader);
+        self.state = answer.state;
+        answer.told
+    }
+
+    // Takes to the end of the slice.
+    pub fn next_all(&mut self, reader: Reader) -> Told
+        ensures { λ t. ⌜ (outcomeOf (record { told = t; state = now (self .exit) .state }) ≡ nextAllBytes (now (self .entry)) reader) × (now (self .exit) .slc ≡ now (self .entry) .slc) ⌝ }
+    {
+        let answer = crate::skip::next_all(self.slc, self.state, reader);
+        self.state = answer.state;
+        answer.told
+    }
+
+    pub fn skip_zeros(&mut self, reader: Reader) -> SkipTold
+        ensures { λ t. ⌜ (skipOutcomeOf (record { told = t; state = now (self .exit) .state }) ≡ skipBytes (now (self .entry)) reader) × (now (self .exit) .slc ≡ now (self .entry) .slc) ⌝ }
+    {
+        let answer = crate::iterator::skip_zeros(self.slc, self.state, reader);
+        self.state = answer.state;
+        answer.told
+    }
+
+    pub fn read_if(&mut self, reader: Reader, set: ByteSet) -> ReadTold
+        ensures { λ t. ⌜ (readOutcomeOf (record { told = t; state = now (self .exit) .state }) ≡ readBytes (now (self .entry)) reader set) × (now (self .exit) .slc ≡ now (self .entry) .slc) ⌝ }
+    {
+        let answer = crate::iterator::read_if(self.slc, self.state, reader, set);
+        self.state = answer.state;
+        answer.told
+    }
+
+    pub fn take_n(&mut self, reader: Reader, n: usize) -> BlockTold
+        ensures { λ t. ⌜ (blockOutcomeOf (record { told = t; state = now (self .exit) .state }) ≡ takeNBytes (now (self .entry)) reader n) × (now (self .exit) .slc ≡ now (self .entry) .slc) ⌝ }
+    {
+        let answer = crate::skip::take_n(self.slc, self.state, reader, n);
+        self.state = answer.state;
+        answer.told
+    }
+}
+
+// Takes to the end of a slice, from its start: for a caller with plain parameters, whose proof needs no walk.
+pub fn take_to_end(s: &[u8], format: Format, reader: Reader) -> Told
+    ensures { λ r. ⌜ outcomeOf (record { told = r; state = wholeOutcome (now (s .entry)) format reader .state }) ≡ wholeOutcome (now (s .entry)) format reader ⌝ }
+{
+    let mut bytes = Bytes::new(s, format);
+    bytes.next_all(reader)
+}
