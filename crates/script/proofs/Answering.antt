@@ -5,10 +5,11 @@ use mathlib.Core.Bool.{Bool, true, false, cond, not, _&&_, _||_}
 use mathlib.Core.List.{List, [], _∷_, _++_, append-assoc, append-nil}
 use Prim.Native.Nat.{ℕ, zero, suc, _+_, _-_, _≤_, _<_, min}
 use native.Mathlib.Omega.{arith}
+use native.Mathlib.Numerals.{add-one}
 use borrow.Author.Tests.{leb-true, le-leb, ltb-true, ltb-false}
 use lib.Dec.{ltb, leb}
 use lib.ListN.{length, take, drop, getD, length-drop}
-use lib.Seq.{drop-length}
+use lib.Seq.{drop-length, drop-cons}
 use Rattle.script.specs.declared.record.Kind.{Kind}
 use Rattle.script.specs.declared.record.Record.{Record}
 use Rattle.script.specs.declared.record.Record.the-variants as record'
@@ -18,9 +19,9 @@ use Rattle.script.specs.declared.run.Response.{Response as Response'}
 use Rattle.script.specs.Record.{kindOf, bodyLength, wholeRecord, recordAt}
 use Rattle.script.specs.declared.answer.Progress.{Progress}
 use Rattle.script.specs.Run.{Run, gathering, stopped, runIn, isStopped, respond, Responds}
-use Rattle.script.specs.Script.{responseAt, outputFrom, outputOf, isDue, GoesAsFar, Answers}
+use Rattle.script.specs.Script.{responseAt, outputFrom, outputOf, isDue, nextIsDue, GoesAsFar, Answers}
 use Rattle.script.proofs.Writing.{wrote-inside}
-use Rattle.script.proofs.Parts.{to-the-end, turn}
+use Rattle.script.proofs.Parts.{to-the-end, drop-all, turn}
 
 false-no : false ≡ true → ⊥
 false-no e = let no : _≡_ {A = ℕ} 0 1 = cc in omega arith
@@ -93,13 +94,17 @@ module _ (stage : Stage) (room : ℕ) (ended : Bool) (size there : ℕ) (is : Bo
       go false false false e f g = let no : false ≡ true = rw (e, f) at due in absurd (false-no no)
       go false true false e f g = let no : false ≡ true = rw (e, f, more, g) at due in absurd (false-no no)
 
--- where the loop ends before the input does, its next record is not due
-pub not-due : (input : List ℕ) (used : ℕ) (stage : Stage) (room : ℕ) (ended : Bool) (size there : ℕ) (is : Bool)
+-- where the loop ends with the input nothing is left, and where it ends before, the next record is not due
+pub nothing-due : (input : List ℕ) (used : ℕ) (stage : Stage) (room : ℕ) (ended : Bool) → length input ≤ used → nextIsDue stage room ended (drop used input) ≡ false
+nothing-due input used stage room ended all = rw (drop-all input used all)
+
+pub not-due : (input : List ℕ) (used : ℕ) (stage : Stage) (room : ℕ) (ended : Bool) (size there : ℕ) (is : Bool) → used < length input
     → is ≡ isDue stage room ended size there → is ≡ false → size ≡ bodyLength (kindOf (getD input used 0))
     → there ≡ length (take (length input - (used + 1)) (drop (used + 1) input))
-    → isDue stage room ended (bodyLength (kindOf (getD input used 0))) (length (drop (used + 1) input)) ≡ false
-not-due input used stage room ended size there is told left e f =
-    rw (e, f, to-the-end input (used + 1)) at (sym told ∙ left)
+    → nextIsDue stage room ended (drop used input) ≡ false
+not-due input used stage room ended size there is inside told left e f =
+    let here : isDue stage room ended (bodyLength (kindOf (getD input used 0))) (length (drop (used + 1) input)) ≡ false = rw (e, f, to-the-end input (used + 1)) at (sym told ∙ left) in
+    rw (drop-cons input used 0 inside) (rw (add-one used) at here)
 
 -- the record that the code asks for is the definition's
 pub asked-as : (rest : List ℕ) (n : ℕ) (k : Kind) (asked : Record) → k ≡ kindOf n
@@ -131,6 +136,10 @@ stops-else : (s w : Bool) → (not s && (true && (true || w))) ≡ false → s �
 stops-else true w e = refl
 stops-else false w e = absurd (false-no (sym e))
 
+due-at : (stage : Stage) (room : ℕ) (ended : Bool) (input : List ℕ) (used : ℕ) → used < length input → nextIsDue stage room ended (drop used input) ≡ false
+    → isDue stage room ended (bodyLength (kindOf (getD input used 0))) (length (drop (used + 1) input)) ≡ false
+due-at stage room ended input used inside far = rw (add-one used) (rw (drop-cons input used 0 inside) at far)
+
 -- An input that has ended and was answered with room to spare: what is written is what the definition prints.
 pub answered-whole : (text : List ℕ) (begun : Stage) (input text' out : List ℕ) (p : Progress) → runIn text begun ≡ gathering []
     → Answers text begun input true text' out p → GoesAsFar input true (length out) p → p .end + 86 ≤ length out
@@ -149,5 +158,6 @@ answered-whole text begun input text' out p fresh here far room = go (ltb (p .us
       let enough : leb 86 (length out - p .end) ≡ true = le-leb 86 (length out - p .end) (omega (arith, room)) in
       let size = bodyLength (kindOf (getD input (p .used) 0)) in
       let there = length (drop (p .used + 1) input) in
-      let stop : isStopped (p .stage) ≡ true = stops-else (isStopped (p .stage)) (leb size there) (rw enough at (far (ltb-true (p .used) (length input) e))) in
+      let due : isDue (p .stage) (length out - p .end) true size there ≡ false = due-at (p .stage) (length out - p .end) true input (p .used) (ltb-true (p .used) (length input) e) far in
+      let stop : isStopped (p .stage) ≡ true = stops-else (isStopped (p .stage)) (leb size there) (rw enough at due) in
       nothing-left (rw (is-stopped-run text' (p .stage) stop) (stopped-prints-nothing (drop (p .used) input ++ []) 0))

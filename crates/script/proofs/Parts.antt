@@ -62,7 +62,7 @@ behind-body [] rest (suc k) run ends = rw (ends (omega arith))
 behind-body (b ∷ body) rest zero run ends = refl
 behind-body (b ∷ body) rest (suc k) run ends = behind-body body rest k run (λ less. ends (omega (arith, less)))
 
-drop-all : (l : List ℕ) (k : ℕ) → length l ≤ k → drop k l ≡ []
+pub drop-all : (l : List ℕ) (k : ℕ) → length l ≤ k → drop k l ≡ []
 drop-all [] k all = drop-nil k
 drop-all (b ∷ l) zero all = absurd (omega (arith, all))
 drop-all (b ∷ l) (suc k) all = drop-all l k (omega (arith, all))

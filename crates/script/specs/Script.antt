@@ -1,9 +1,9 @@
 -- What a whole call script prints: input bytes to output bytes (document 01, "Call script"). Assumes nothing.
-use Prim.Native.Nat.{ℕ, zero, suc, _+_, _-_, _≤_, _<_}
+use Prim.Native.Nat.{ℕ, zero, suc, _-_, _≤_}
 use mathlib.Core.Path.{_≡_}
 use mathlib.Core.Bool.{Bool, true, false, not, _&&_, _||_}
 use lib.Dec.{leb}
-use lib.ListN.{length, take, drop, getD}
+use lib.ListN.{length, take, drop}
 use mathlib.Core.List.{List, [], _∷_, _++_}
 use Rattle.script.specs.Record.{kindOf, bodyLength, recordAt}
 use Rattle.script.specs.declared.run.Stage.{Stage}
@@ -45,15 +45,18 @@ longestLine = 86
 unfoldable pub isDue : Stage → ℕ → Bool → ℕ → ℕ → Bool
 isDue stage room ended size there = not (isStopped stage) && (leb longestLine room && (ended || leb size there))
 
+-- the same of what is left of an input; where nothing is left, nothing is due
+abbrev pub nextIsDue : Stage → ℕ → Bool → List ℕ → Bool
+nextIsDue stage room ended [] = false
+nextIsDue stage room ended (kind ∷ body) = isDue stage room ended (bodyLength (kindOf kind)) (length body)
+
 -- no record that is due is left
 abbrev pub GoesAsFar : List ℕ → Bool → ℕ → Progress → Type 0
-GoesAsFar input ended space progress =
-    progress .used < length input
-    → isDue (progress .stage) (space - progress .end) ended (bodyLength (kindOf (getD input (progress .used) 0))) (length (drop (progress .used + 1) input))
-    ≡ false
+GoesAsFar input ended space progress = nextIsDue (progress .stage) (space - progress .end) ended (drop (progress .used) input) ≡ false
 
--- What came before is printed: of bytes that have arrived, whatever comes behind them, the run prints some, which were handed on to
--- be written, and then what the run that goes on prints of the bytes that are kept and of those that come.
+-- Of bytes that have arrived, whatever comes behind them, the run prints some, and then what the run that goes on prints of the bytes
+-- that are kept and of those that come. So nothing of what is still to be printed is lost or doubled; that the first bytes are the
+-- ones handed to the system's write, no contract of a write says.
 pub record Prints (ended : Bool) (arrived : List ℕ) (run : Run) (kept : List ℕ) (next : Run) : Type 0 where
   pub printed : List ℕ
   pub told : (rest : List ℕ) → (ended ≡ true → rest ≡ []) → outputFrom (arrived ++ rest) 0 run ≡ printed ++ outputFrom (kept ++ rest) 0 next

@@ -6,7 +6,7 @@ use borrow.Author.Needs.{needs}
 use borrow.Author.Tests.{not-true, not-false}
 use lib.ListN.{length, getD, drop, length-drop}
 use Rattle.script.specs.Record.{kindOf, bodyLength}
-use Rattle.script.proofs.Answering.{Answering, answering-starts, answering-goes-on, due-room, due-whole, not-due, least-as}
+use Rattle.script.proofs.Answering.{Answering, answering-starts, answering-goes-on, due-room, due-whole, nothing-due, not-due, least-as}
 use Rattle.script.proofs.answer.answer.Statement.{statement}
 use Rattle.script.proofs.answer.answer.Tie as tie
 
@@ -91,7 +91,7 @@ same-length-2 c = c .before .loop .inv .size
 returns : tie.Need-returns Inv-loop μ-loop
 returns c =
     let i = c .before .loop .inv in
-    ((i .kept, i .size), (λ less. absurd (omega (arith, less, c .loop-test .left)), i .answers))
+    ((i .kept, i .size), (nothing-due (c .before .before .before .before .before .args .input .now) (c .before .loop .used) _ _ _ (omega arith), i .answers))
 
 same-length-3 : tie.Need-same-length-3 Inv-loop μ-loop
 same-length-3 c = c .before .before .before .before .before .before .before .loop .inv .kept ∙ sym (c .before .before .before .before .before .before .before .before .before .before .before .pre)
@@ -106,7 +106,7 @@ returns-2 c =
     let size = c .before .before .body-length .ensures ∙ ap bodyLength (c .before .before .before .kind-of .ensures) in (
       (i .kept, i .size),
       (
-        λ less. not-due (c .before .before .before .before .before .before .before .before .before .before .before .args .input .now) (l .used) (l .stage) _ _ _ _ (c .before .is-due .result) (c .before .is-due .ensures) (not-true (c .before .is-due .result) (c .if1 .taken)) size refl,
+        not-due (c .before .before .before .before .before .before .before .before .before .before .before .args .input .now) (l .used) (l .stage) _ _ _ _ (c .before .is-due .result) (c .before .before .before .before .before .before .loop-test .taken) (c .before .is-due .ensures) (not-true (c .before .is-due .result) (c .if1 .taken)) size refl,
         i .answers,
       ),
     )
