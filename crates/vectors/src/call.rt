@@ -17,8 +17,10 @@ use reader::skip::take_n_part;
 use reader::state::ExponentCount;
 use reader::state::FractionCount;
 use reader::state::IntegerCount;
+use reader::state::Named;
 use reader::state::Reader;
 use reader::state::State;
+use reader::state::reader_named;
 use word::format_flags::Format;
 
 // The most bytes of a recorded buffer.
@@ -49,15 +51,6 @@ fn buffer_of(bytes: u64) -> [u8; MOST] {
         byte_of(bytes, 1),
         byte_of(bytes, 0),
     ]
-}
-
-fn reader_of(number: u8) -> Reader {
-    match number {
-        0 => Reader::Integer,
-        1 => Reader::Fraction,
-        2 => Reader::Exponent,
-        _ => Reader::Special,
-    }
 }
 
 fn state_of(what: u64, format: Format) -> State {
@@ -162,11 +155,15 @@ pub fn repeat(what: u64, format: Format, bytes: u64) -> Outcome {
     if length > all.len() {
         return Outcome::NoCall;
     }
-    made(
-        byte_of(what, 0),
-        &all[0..length],
-        state_of(what, format),
-        reader_of(byte_of(what, 1)),
-        byte_of(what, 7),
-    )
+    let who = reader_named(byte_of(what, 1));
+    match who {
+        Named::Known(reader) => made(
+            byte_of(what, 0),
+            &all[0..length],
+            state_of(what, format),
+            reader,
+            byte_of(what, 7),
+        ),
+        Named::Unknown => Outcome::NoCall,
+    }
 }
