@@ -1,5 +1,6 @@
 pub mod Halves
 pub mod Digits
+pub mod Ranges
 pub mod Lines
 pub mod Masks
 pub mod Members

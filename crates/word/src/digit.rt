@@ -2,6 +2,7 @@
 ghost use mathlib.Core.Path.{_≡_};
 ghost use lib.Dec.{ltb};
 ghost use lib.ListN.{getD};
+ghost use Prim.Native.Nat.{_-_, min};
 ghost use Rattle.word.specs.Digit.{isDigit};
 
 // The value of each byte: 0 to 9 for the figures, 10 to 35 for the letters of either case, 255 for none.
@@ -283,4 +284,31 @@ pub fn char_is_digit_const(c: u8, radix: u32) -> bool
 {
     let values = VALUES;
     char_is_digit_in(&values, c, radix)
+}
+
+fn smaller(a: u8, b: u8) -> u8
+    ensures { λ r. ⌜ r ≡ min a b ⌝ }
+{
+    if a < b { a } else { b }
+}
+
+// How many of the letters are digits of a radix. Without a branch of its own, it is worked out before a loop.
+fn letters_of(radix: u8) -> u8
+    ensures { λ r. ⌜ r ≡ min (radix - 10) 26 ⌝ }
+{
+    smaller(radix, 36) - smaller(radix, 10)
+}
+
+// The same test by the ranges of figures and letters, for loops over bytes: it reads no table, which the language would store to the
+// stack at each call, and it can be made of many bytes at once. Up to radix 10 no letter is asked for; the question is the same for a
+// whole loop. A letter and its other case differ in the bit of 32 alone.
+pub fn char_is_digit_by_range(c: u8, radix: u8) -> bool
+    ensures { λ r. ⌜ r ≡ isDigit c radix ⌝ }
+{
+    let figure = std::num::wrapping_sub_u8(c, 48);
+    if radix <= 10 {
+        return figure < radix;
+    }
+    let letter = std::num::wrapping_sub_u8(c | 32, 97);
+    (figure < smaller(radix, 10)) | (letter < letters_of(radix))
 }
