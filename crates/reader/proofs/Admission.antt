@@ -9,10 +9,11 @@ use lib.ListN.{length}
 use borrow.Author.Tests.{leb-true, le-leb}
 use Rattle.reader.specs.declared.rule.Flags.{Flags}
 use Rattle.reader.specs.declared.state.Reader.{Reader}
+use Rattle.reader.specs.declared.state.Reader.the-variants.{Integer, Fraction, Exponent, Special}
 use Rattle.reader.specs.declared.state.State.{State}
 use Rattle.reader.specs.declared.state.Refusal.{Refusal}
 use Rattle.reader.specs.declared.state.Refusal.the-variants.{CursorPastEnd, CountsExceedCursor, SpecialReader, ConsecutiveInteger, ConsecutiveFraction, ConsecutiveExponent}
-use Rattle.reader.specs.State.{countSum}
+use Rattle.reader.specs.State.{isCounted, countSum}
 use Rattle.word.specs.Check.{line, firstFailing}
 use Rattle.word.proofs.Lines.{line-last, joined}
 use Rattle.reader.specs.Reading.{Reading, isConsecutiveAlone}
@@ -41,14 +42,19 @@ module _ (s : List ℕ) (st : State) (rest : List ℕ) where
     go false false p q h = absurd (let z : 16 ≡ 0 = rw p at h in omega arith)
     go true false p q h = absurd (let z : 17 ≡ 0 = rw (p, q) at h in omega arith)
 
+  -- so that what comes after them decides
+  rest-clear : Clear → firstFailing rest ≡ 0
+  unfolding Clear
+  rest-clear clear =
+      rw (le-leb (st .cursor) (length s) (cursor-within clear), le-leb (countSum st) (st .cursor) (counts-within clear)) at clear
+
+  clear-with : st .cursor ≤ length s → countSum st ≤ st .cursor → firstFailing rest ≡ 0 → Clear
+  unfolding Clear
+  clear-with cursor counts h = rw (le-leb (st .cursor) (length s) cursor, le-leb (countSum st) (st .cursor) counts) h
+
 -- and they hold of another state that is so within
 still-clear : (s : List ℕ) (st here : State) (rest : List ℕ) → Clear s st rest → here .cursor ≤ length s → countSum here ≤ here .cursor → Clear s here rest
-unfolding Clear
-still-clear s st here rest clear cursor counts =
-    let a = cursor-within s st rest clear in
-    let b = counts-within s st rest clear in
-    rw (le-leb (here .cursor) (length s) cursor, le-leb (countSum here) (here .cursor) counts)
-    (rw (le-leb (st .cursor) (length s) a, le-leb (countSum st) (st .cursor) b) at clear)
+still-clear s st here rest clear cursor counts = clear-with s here rest cursor counts (rest-clear s st rest clear)
 
 pub place-within : (s : List ℕ) (st : State) → placeRefusal s st ≡ 0 → (st .cursor ≤ length s) × (countSum st ≤ st .cursor)
 unfolding placeRefusal Clear
@@ -69,6 +75,21 @@ unfolding skipRefusal Clear
 skip-within f s st r clear =
     let rest = line18 r ∷ lineConsecutive f r ∷ [] in
     (cursor-within s st rest clear, counts-within s st rest clear)
+
+-- A zero skip that is not refused is by a counted reader, whose other calls are not refused either.
+counted-only : (f : Flags) (r : Reader) → firstFailing (line18 r ∷ lineConsecutive f r ∷ []) ≡ 0
+    → (isCounted r ≡ true) × (firstFailing (lineConsecutive f r ∷ []) ≡ 0)
+counted-only f Integer h = (refl, h)
+counted-only f Fraction h = (refl, h)
+counted-only f Exponent h = (refl, h)
+counted-only f Special h = absurd (omega arith)
+
+pub skip-admits : (f : Flags) (s : List ℕ) (st : State) (r : Reader) → skipRefusal f s st r ≡ 0 → (isCounted r ≡ true) × (refusalWith f s st r ≡ 0)
+unfolding skipRefusal refusalWith Clear
+skip-admits f s st r clear =
+    let within = skip-within f s st r clear in
+    let rest = counted-only f r (rest-clear s st (line18 r ∷ lineConsecutive f r ∷ []) clear) in
+    (rest .0, clear-with s st (lineConsecutive f r ∷ []) (within .0) (within .1) (rest .1))
 
 -- a state that is not refused stays so while its cursor is within the buffer and its counts within the cursor
 module _ (f : Flags) (s : List ℕ) (st here : State) (r : Reader) (cursor : here .cursor ≤ length s) (counts : countSum here ≤ here .cursor) where

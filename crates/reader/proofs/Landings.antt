@@ -10,7 +10,9 @@ use lib.ListN.{length, drop, getD}
 use Rattle.reader.specs.declared.rule.Neighbour.{Neighbour}
 use Rattle.reader.specs.declared.passing.Syntax.{Syntax}
 use Rattle.reader.specs.Rule.{ruleOf}
-use Rattle.reader.specs.Place.{isSeparator, firstOther, separatorRun, nearest}
+use Rattle.word.specs.Bits.{bit}
+use Rattle.reader.specs.RuleData.{codeOf}
+use Rattle.reader.specs.Place.{isSeparator, byteAt, after, firstOther, separatorRun, nearest}
 use Rattle.reader.specs.Reading.{readingWith, neighbourOf, previous, following, mayPass, passedAt}
 use Rattle.reader.proofs.Places.{byte-here, no-byte, is-separator, runEnd, run-over}
 
@@ -33,6 +35,20 @@ module _ (x : Syntax) (wanted : Bool) (bytes : List ℕ) (r : Neighbour) where
     pub nearest-byte : x .flags .consecutive ≡ false → byte ≡ head? bytes → r ≡ neighbourWhere x wanted bytes
     unfolding readingWith
     nearest-byte k e = rw (not-false wanted t) (known ∙ ap (neighbourOf (readingWith x)) (e ∙ rw k))
+
+-- Once a reader has counted, its rule is the entry's answer for the neighbour behind.
+pub asked-behind :
+    (x : Syntax) (s : List ℕ) (at w place : ℕ) (next : Neighbour) (may : Bool)
+    → ((p n : Neighbour) → bit w (codeOf n) ≡ ruleOf (x .flags) false p n)
+    → next ≡ neighbourOf (readingWith x) (byteAt s place)
+    → byteAt s place ≡ nearest (x .separator) (x .flags .consecutive) (after s at)
+    → may ≡ bit w (codeOf next)
+    → may ≡ ruleOf (x .flags) false (previous (readingWith x) s at) (following (readingWith x) s at)
+unfolding readingWith
+asked-behind x s at w place next may entry known stands told =
+    told
+    ∙ entry (previous (readingWith x) s at) next
+    ∙ ap (ruleOf (x .flags) false (previous (readingWith x) s at)) (known ∙ ap (neighbourOf (readingWith x)) stands)
 
 module _ (x : Syntax) (s : List ℕ) (isFirst : Bool) (at : ℕ) where
   -- where the cursor lands
@@ -65,6 +81,13 @@ module _ (x : Syntax) (s : List ℕ) (isFirst : Bool) (at : ℕ) where
 
       pub passes-one : not may ≡ false → x .flags .consecutive ≡ false → at + 1 ≡ landingOf
       passes-one t k = rw (passed, not-false may t, k)
+
+      -- the same where the rule was asked of the byte behind alone
+      pub stays-behind : may ≡ false → at ≡ landingOf
+      stays-behind t = rw (passed, t) (omega arith)
+
+      pub passes-behind : (r : ℕ) → may ≡ true → r ≡ at + cond (x .flags .consecutive) (separatorRun (x .separator) (drop at s)) 1 → r ≡ landingOf
+      passes-behind r t e = rw (passed, t) e
 
       pub passes-run : (r : ℕ) → not may ≡ false → x .flags .consecutive ≡ true → r ≡ runEnd (x .separator) s (at + 1) → r ≡ landingOf
       passes-run r t k e = rw (passed, not-false may t, k) (e ∙ run-over (x .separator) s at h positive equal)

@@ -27,7 +27,9 @@ pub mod Zeros
 pub mod Endings
 pub mod Examples
 pub mod Outcomes
+pub mod Standing
 pub mod Running
+pub mod Skipping
 pub mod Settling
 pub mod Peeking
 pub mod Insertion

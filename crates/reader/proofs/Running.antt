@@ -1,55 +1,26 @@
 -- The loop of takes on plain numbers: how its numbers stand for the state of a list of takes. Assumes nothing.
-use mathlib.Core.Path.{_≡_, _∙_, refl, sym, ap}
-use mathlib.Core.Bool.{Bool, true, false, cond, not, _&&_}
-use mathlib.Core.List.{List, [], _∷_}
-use mathlib.Core.Option.{Option, some, none}
-use Prim.Native.Nat.{ℕ, zero, suc, _+_, _-_, _<_, _≤_}
-use native.Mathlib.Nat.{zero-add, add-zero, add-assoc}
+use mathlib.Core.Path.{_≡_, refl, ap}
+use mathlib.Core.Bool.{Bool, true, false, cond, _&&_}
+use mathlib.Core.List.{List}
+use mathlib.Core.Option.{some, none}
+use Prim.Native.Nat.{ℕ, _+_, _-_, _<_, _≤_}
+use native.Mathlib.Nat.{add-zero}
 use native.Mathlib.Omega.{arith}
-use lib.Dec.{eqb, leb}
+use lib.Dec.{eqb}
 use lib.ListN.{length, getD}
-use borrow.Author.Tests.{le-leb}
-use Rattle.word.specs.Check.{line, firstFailing}
-use Rattle.reader.specs.declared.rule.Flags.{Flags}
 use Rattle.reader.specs.declared.state.Reader.{Reader}
 use Rattle.reader.specs.declared.state.Reader.the-variants.{Integer, Fraction, Exponent, Special}
 use Rattle.reader.specs.declared.state.State.{State}
-use Rattle.reader.specs.Place.{byteAt}
 use Rattle.reader.specs.Reading.{Reading, hasAnyFlag, mayPass, passedAt}
-use Rattle.reader.specs.State.{isCounted, countOf, countSum, movedTo, countedBy, withCount}
+use Rattle.reader.specs.State.{isCounted, countOf, movedTo, countedBy, withCount}
 use Rattle.reader.specs.Answer.{Outcome}
-use Rattle.reader.specs.Calls.{consecutiveNumber, refusalWith, seenPast, peeked, peekOf, takenFrom, takeByte, nextOf}
+use Rattle.reader.specs.Calls.{refusalWith, takenFrom, nextOf}
 use Rattle.reader.proofs.Looking.{byte-there, byte-missing}
-use Rattle.reader.proofs.Admission.{within, still-admitted, peek-admitted}
+use Rattle.reader.proofs.Admission.{within}
 use Rattle.reader.specs.Repeat.{repeated}
+use Rattle.reader.proofs.Standing.{stateAt, own-count, past-byte, Standing, standing-starts, standing-on, peeks-at}
 use Rattle.reader.proofs.Repeats.{Repeating, repeating-starts, repeating-ends, repeating-goes-on}
 use Rattle.reader.proofs.Takes.{next-takes-one}
-
--- the state at a place with a count
-abbrev pub stateAt : State → Reader → ℕ → ℕ → State
-stateAt st r at count = withCount (movedTo st at) r count
-
--- laws of the reader's own count
-own-count : (st : State) (r : Reader) → stateAt st r (st .cursor) (countOf st r) ≡ st
-unfolding withCount movedTo countOf
-own-count st Integer = refl
-own-count st Fraction = refl
-own-count st Exponent = refl
-own-count st Special = refl
-
-moved-on : (st : State) (r : Reader) (at to count : ℕ) → movedTo (stateAt st r at count) to ≡ stateAt st r to count
-unfolding withCount movedTo
-moved-on st Integer at to count = refl
-moved-on st Fraction at to count = refl
-moved-on st Exponent at to count = refl
-moved-on st Special at to count = refl
-
-at-cursor : (st : State) (r : Reader) (at count : ℕ) → stateAt st r at count .cursor ≡ at
-unfolding withCount movedTo
-at-cursor st Integer at count = refl
-at-cursor st Fraction at count = refl
-at-cursor st Exponent at count = refl
-at-cursor st Special at count = refl
 
 -- Where the reader counts (t), one more is counted; a count of the special reader changes nothing.
 counts-on : (st : State) (r : Reader) (at count : ℕ) (any digit : Bool)
@@ -69,7 +40,7 @@ counts-on st Special at count true true = refl
 counts-on st Special at count true false = refl
 counts-on st Special at count false digit = refl
 
--- the stored count, and the sum of the counts, one byte on
+-- the stored count one byte on
 tells-count : (st : State) (r : Reader) (at count : ℕ) (t : Bool) → countOf (stateAt st r at count) r ≡ count → (to : ℕ) (any : Bool)
     → countOf (stateAt st r to (cond ((any && isCounted r) && t) (count + 1) count)) r ≡ cond ((any && isCounted r) && t) (count + 1) count
 unfolding withCount movedTo countOf
@@ -79,24 +50,17 @@ tells-count st Exponent at count t e to any = refl
 tells-count st Special at count t e to true = e
 tells-count st Special at count t e to false = e
 
-sum-on : (st : State) (r : Reader) (at to count n : ℕ) → n ≤ count + 1 → countSum (stateAt st r to n) ≤ countSum (stateAt st r at count) + 1
-unfolding withCount movedTo
-sum-on st Integer at to count n h = omega arith
-sum-on st Fraction at to count n h = omega arith
-sum-on st Exponent at to count n h = omega arith
-sum-on st Special at to count n h = omega arith
-
-count-in-sum : (st : State) (r : Reader) → countOf st r ≤ countSum st
-unfolding countOf
-count-in-sum st Integer = omega arith
-count-in-sum st Fraction = omega arith
-count-in-sum st Exponent = omega arith
-count-in-sum st Special = omega arith
-
 -- nothing is passed at the end
 end-passes-none : (m : Reading) (s : List ℕ) (isFirst : Bool) (place : ℕ) → length s ≤ place → passedAt m s isFirst place ≡ 0
 unfolding passedAt mayPass
 end-passes-none m s isFirst place out = rw (byte-missing s place out)
+
+-- A loop of takes that keeps numbers only begins at a state: its place and count are the state's, and it counts where the reader does.
+pub record Begins (m : Reading) (s : List ℕ) (r : Reader) (st : State) (start counted : ℕ) (counts : Bool) : Type 0 where
+  pub clear : refusalWith (m .flags) s st r ≡ 0
+  pub place : start ≡ st .cursor
+  pub own : counted ≡ countOf st r
+  pub counting : counts ≡ (hasAnyFlag (m .flags) && isCounted r)
 
 -- the call that the loop repeats
 abbrev take : Reading → List ℕ → Reader → State → Outcome
@@ -106,26 +70,16 @@ module _ (m : Reading) (s : List ℕ) (r : Reader) (st : State) where
   -- The loop stands at a place with a count, and has passed so many: these are the numbers of a list of takes from `st`.
   pub record Running (at count passed : ℕ) : Type 0 where
     pub so-far : Repeating s (take m s r) st (at - st .cursor - passed) passed (stateAt st r at count)
-    pub counted : countOf (stateAt st r at count) r ≡ count
-    pub sums : countSum (stateAt st r at count) ≤ at
-    pub inside : at ≤ length s
+    pub stands : Standing s r st at count
     pub started : st .cursor + passed ≤ at
-
-  -- the count is within the place
-  pub running-counts : (at count passed : ℕ) → Running at count passed → count ≤ at
-  running-counts at count passed here = omega (arith, here .counted, here .sums, count-in-sum (stateAt st r at count) r)
 
 module _ (m : Reading) (s : List ℕ) (r : Reader) (st : State) (clear : refusalWith (m .flags) s st r ≡ 0) where
   pub running-starts : Running m s r st (st .cursor) (countOf st r) 0
   running-starts =
-      let w = within (m .flags) s st r clear in
-      let same = own-count st r in
       let none-yet : st .cursor - st .cursor - 0 ≡ 0 = omega arith in
       record {
-        so-far = rw (same, none-yet) (repeating-starts s (take m s r) st);
-        counted = rw same;
-        sums = rw same (w .1);
-        inside = w .0;
+        so-far = rw (own-count st r, none-yet) (repeating-starts s (take m s r) st);
+        stands = standing-starts s r st (within (m .flags) s st r clear);
         started = omega arith;
       }
 
@@ -133,38 +87,24 @@ module _ (m : Reading) (s : List ℕ) (r : Reader) (st : State) (clear : refusal
     abbrev now : State
     now = stateAt st r at count
 
-    peeks : peekOf m s now r ≡ seenPast s now (passedAt m s (eqb count 0) at)
-    unfolding peeked
-    peeks =
-        let c = at-cursor st r at count in
-        let open-now = still-admitted (m .flags) s st now r (rw c (here .inside)) (rw c (here .sums)) clear in
-        peek-admitted m s now r open-now ∙ rw (here .counted, c)
-
     module _ (place : ℕ) (lands : place ≡ at + passedAt m s (eqb count 0) at) where
-      moves : now .cursor + passedAt m s (eqb count 0) at ≡ place
-      moves = rw (at-cursor st r at count) (sym lands)
-
-      passes : passedAt m s (eqb count 0) at ≡ place - at
-      passes = omega arith
-
       -- a take that finds a byte
       takes-byte : place < length s → nextOf m s now r
-          ≡ record { refusal = 0; byte = some (getD s place 0); taken = 1; passed = place - at; state = takenFrom m r (getD s place 0) (movedTo now place) }
+          ≡ record { refusal = 0; byte = some (getD s place 0); taken = 1; passed = place - at; state = takenFrom m r (getD s place 0) (stateAt st r place count) }
       unfolding nextOf
-      takes-byte h = rw (peeks, moves, byte-there s place h, passes)
+      takes-byte h = rw (peeks-at s r st at count (here .stands) m clear place lands, byte-there s place h)
 
       -- a take that finds the end
       takes-end : length s ≤ place → nextOf m s now r ≡ record { refusal = 0; byte = none; taken = 0; passed = place - at; state = stateAt st r place count }
       unfolding nextOf
-      takes-end h = rw (peeks, moves, byte-missing s place h, passes, moved-on st r at place count)
+      takes-end h = rw (peeks-at s r st at count (here .stands) m clear place lands, byte-missing s place h)
 
       -- the count behind the byte
       abbrev countOn : ℕ
       countOn = cond ((hasAnyFlag (m .flags) && isCounted r) && m .digit (getD s place 0)) (count + 1) count
 
-      state-on : takenFrom m r (getD s place 0) (movedTo now place) ≡ stateAt st r (place + 1) countOn
-      unfolding movedTo
-      state-on = rw (moved-on st r at (place + 1) count) (counts-on st r (place + 1) count (hasAnyFlag (m .flags)) (m .digit (getD s place 0)))
+      state-on : takenFrom m r (getD s place 0) (stateAt st r place count) ≡ stateAt st r (place + 1) countOn
+      state-on = rw (past-byte st r place count) (counts-on st r (place + 1) count (hasAnyFlag (m .flags)) (m .digit (getD s place 0)))
 
       count-fits : countOn ≤ count + 1
       count-fits = go ((hasAnyFlag (m .flags) && isCounted r) && m .digit (getD s place 0)) where
@@ -181,9 +121,9 @@ module _ (m : Reading) (s : List ℕ) (r : Reader) (st : State) (clear : refusal
           let same : at - st .cursor - passed + 1 ≡ (place + 1) - st .cursor - (passed + (place - at)) = omega (arith, here .started, lands) in
           record {
             so-far = rw same at (rw state-on at (rw n at took));
-            counted = tells-count st r at count (m .digit b) (here .counted) (place + 1) (hasAnyFlag (m .flags));
-            sums = omega (arith, here .sums, sum-on st r at (place + 1) count countOn count-fits, lands);
-            inside = omega arith;
+            stands =
+                standing-on s r st at count (here .stands) place countOn (omega arith) h count-fits
+                (tells-count st r at count (m .digit b) (here .stands .counted) (place + 1) (hasAnyFlag (m .flags)));
             started = omega (arith, here .started, lands);
           }
 

@@ -1,6 +1,6 @@
 -- What the cases of the calls' answers say in document 01's terms: its number of a refusal, the byte, and how many bytes were taken
 -- and separators passed. The contracts use these. Assumes nothing.
-use Prim.Native.Nat.{ℕ, _<_, _≤_}
+use Prim.Native.Nat.{ℕ, _-_, _<_, _≤_}
 use mathlib.Core.List.{List}
 use lib.ListN.{length}
 use mathlib.Core.Option.{Option, some, none}
@@ -9,6 +9,8 @@ use Rattle.reader.specs.declared.state.Refusal.{Refusal}
 use Rattle.reader.specs.declared.state.Refusal.the-variants.{CursorPastEnd, CountsExceedCursor, SpecialReader, ConsecutiveInteger, ConsecutiveFraction, ConsecutiveExponent}
 use Rattle.reader.specs.declared.state.Admission.{Admission}
 use Rattle.reader.specs.declared.state.Admission.the-variants as admission
+use Rattle.reader.specs.declared.state.Reader.{Reader}
+use Rattle.reader.specs.declared.skip.Run.{Run}
 use Rattle.reader.specs.declared.skip.Looked.{Looked}
 use Rattle.reader.specs.declared.skip.Looked.the-variants as looked
 use Rattle.reader.specs.declared.skip.Seen.{Seen}
@@ -25,7 +27,7 @@ use Rattle.reader.specs.declared.iterator.SkipAnswer.{SkipAnswer}
 use Rattle.reader.specs.declared.skip.Block.{Block}
 use Rattle.reader.specs.declared.skip.Block.the-variants as block
 use Rattle.reader.specs.declared.skip.BlockAnswer.{BlockAnswer}
-use Rattle.reader.specs.State.{movedTo, countSum}
+use Rattle.reader.specs.State.{movedTo, withCount, countSum}
 
 -- "What the office log shows"
 abbrev pub numberOf : Refusal → ℕ
@@ -62,6 +64,17 @@ abbrev pub LookFits : List ℕ → State → Looked → Type 0
 LookFits s st (looked.Byte b place passed) = (place < length s) × (countSum st ≤ place)
 LookFits s st (looked.End place passed) = Unit {0}
 LookFits s st (looked.Refused e) = Unit {0}
+
+-- what takes to the end come to from a state: the end, with the state at the run's place and count
+abbrev pub runOutcome : State → Reader → Run → Outcome
+runOutcome st r run =
+    record {
+      refusal = 0;
+      byte = none;
+      taken = run .at - st .cursor - run .passed;
+      passed = run .passed;
+      state = withCount (movedTo st (run .at)) r (run .count);
+    }
 
 -- a peek's and a take's answer: a byte, the end, or a refusal
 abbrev pub seenNumber : Seen → ℕ

@@ -1,14 +1,16 @@
 // Conditional reads and the zero skip. After lexical-util's iterator.rs.
 ghost use mathlib.Core.Path.{_≡_};
-ghost use Prim.Native.Nat.{ℕ, _<_};
-ghost use lib.Dec.{eqb};
-ghost use Rattle.word.specs.Digit.{digitTable};
+ghost use mathlib.Core.Bool.{_&&_};
+ghost use Prim.Native.Nat.{_+_, _≤_};
+ghost use lib.Dec.{eqb, ltb};
+ghost use lib.ListN.{length, getD};
 ghost use Rattle.word.specs.ByteSet.{member};
-ghost use Rattle.reader.specs.Reading.{readingWith, readingOf};
+ghost use Rattle.reader.specs.Reading.{readingWith, readingOf, passedAt};
 ghost use Rattle.reader.specs.Answer.{readOutcomeOf, skipOutcomeOf};
 ghost use Rattle.reader.specs.Calls.{readIfOf};
-ghost use Rattle.reader.specs.ZeroSkip.{isZero, skipRefusal, zeroReadOf, skipZerosOf};
+ghost use Rattle.reader.specs.ZeroSkip.{isZero, skipRefusal, skipZerosOf};
 use crate::passing::Syntax;
+use crate::passing::landing;
 use crate::passing::syntax_of;
 use crate::skip::Looked;
 use crate::skip::look;
@@ -17,10 +19,9 @@ use crate::state::Reader;
 use crate::state::Refusal;
 use crate::state::State;
 use crate::state::admit_skip;
-use crate::state::counted;
 use crate::state::moved;
+use crate::state::with_count;
 use word::byte_set::ByteSet;
-use word::digit::VALUES;
 
 // What a conditional read did.
 pub enum Read {
@@ -69,19 +70,11 @@ fn read_answered(read: Read, taken: usize, passed: usize, state: State) -> ReadA
     ReadAnswer { told, state }
 }
 
-// A conditional read with the table lent and what the word says at hand.
-fn read_in(
-    values: &[u8; 256],
-    s: &[u8],
-    state: State,
-    syntax: Syntax,
-    reader: Reader,
-    set: ByteSet,
-) -> ReadAnswer
-    requires { ⌜ now values ≡ digitTable ⌝ }
+// A conditional read with what the word says at hand.
+fn read_in(s: &[u8], state: State, syntax: Syntax, reader: Reader, set: ByteSet) -> ReadAnswer
     ensures { λ r. ⌜ readOutcomeOf r ≡ readIfOf (readingWith syntax) (now (s .entry)) state reader (member set) ⌝ }
 {
-    let looked = look(values, s, state, syntax, reader);
+    let looked = look(s, state, syntax, reader);
     match looked {
         Looked::Byte(b, place, passed) => {
             if set.contains(b) {
@@ -98,9 +91,8 @@ fn read_in(
 pub fn read_if(s: &[u8], state: State, reader: Reader, set: ByteSet) -> ReadAnswer
     ensures { λ r. ⌜ readOutcomeOf r ≡ readIfOf (readingOf (state .format) reader) (now (s .entry)) state reader (member set) ⌝ }
 {
-    let values = VALUES;
     let syntax = syntax_of(state.format, reader);
-    read_in(&values, s, state, syntax, reader, set)
+    read_in(s, state, syntax, reader, set)
 }
 
 // The same for one byte.
@@ -122,74 +114,74 @@ fn skip_answered(skipped: Skipped, taken: usize, passed: usize, state: State) ->
     SkipAnswer { told, state }
 }
 
-// One read of a zero skip: a zero that is taken raises the reader's count.
-fn read_zero(
-    values: &[u8; 256],
-    s: &[u8],
-    state: State,
-    syntax: Syntax,
-    reader: Reader,
-    zero: ByteSet,
-) -> ReadAnswer
-    requires { ⌜ (now values ≡ digitTable) × ((x : ℕ) → x < 256 → member zero x ≡ isZero x) ⌝ }
-    ensures { λ r. ⌜ readOutcomeOf r ≡ zeroReadOf (readingWith syntax) (now (s .entry)) reader state ⌝ }
+// Where a cursor lands at a place. Most places have no separator, and there no call is made. (It calls `landing`: what the loop of
+// `next_all` calls is compiled into that loop only as long as nothing else calls it.)
+fn place_at(s: &[u8], syntax: Syntax, first: bool, at: usize) -> usize
+    requires { ⌜ at ≤ length (now s) ⌝ }
+    ensures { λ r. ⌜ (r ≡ at + passedAt (readingWith syntax) (now (s .entry)) first at) × (r ≤ length (now (s .entry))) ⌝ }
 {
-    let answer = read_in(values, s, state, syntax, reader, zero);
-    let told = answer.told;
-    let read = told.read;
-    match read {
-        Read::Taken(b) => {
-            let next = counted(answer.state, reader);
-            read_answered(Read::Taken(b), 1, told.passed, next)
-        }
-        Read::Declined => answer,
-        Read::Refused(refusal) => answer,
+    if s.len() <= at {
+        return at;
     }
+    let b = s[at];
+    if b != syntax.separator {
+        return at;
+    }
+    landing(s, syntax, first, at)
 }
 
-// Reads zeros until a read fails, from a state that is not refused.
-fn take_zeros(
-    values: &[u8; 256],
-    s: &[u8],
-    state: State,
-    syntax: Syntax,
-    reader: Reader,
-) -> SkipAnswer
-    requires { ⌜ (now values ≡ digitTable) × (skipRefusal (syntax .flags) (now s) state reader ≡ 0) ⌝ }
+// Whether there is a byte at the place, and it is `0`.
+fn is_zero_at(s: &[u8], place: usize) -> bool
+    ensures { λ r. ⌜ r ≡ (ltb place (length (now (s .entry))) && isZero (getD (now (s .entry)) place 0)) ⌝ }
+{
+    if s.len() <= place {
+        return false;
+    }
+    let b = s[place];
+    b == 48
+}
+
+// Reads zeros until a read fails, from a state that is not refused. The loop keeps numbers only, and makes the state at its end; most
+// turns stand on a zero that is no separator, so that test stands first.
+fn take_zeros(s: &[u8], state: State, syntax: Syntax, reader: Reader) -> SkipAnswer
+    requires { ⌜ skipRefusal (syntax .flags) (now s) state reader ≡ 0 ⌝ }
     ensures { λ r. ⌜ skipOutcomeOf r ≡ skipZerosOf (readingWith syntax) (now (s .entry)) state reader ⌝ }
 {
-    let zero = ByteSet::from_byte(48);
-    let mut here = state;
+    let separator = syntax.separator;
+    let mut at = state.cursor;
+    let mut count = state.count(reader);
     let mut taken: usize = 0;
     let mut passed: usize = 0;
     let zeros = loop {
-        let answer = read_zero(values, s, here, syntax, reader, zero);
-        let told = answer.told;
-        here = answer.state;
-        passed += told.passed;
-        if told.taken == 0 {
+        if (separator != 48) & is_zero_at(s, at) {
+            at += 1;
+            count += 1;
+            taken += 1;
+            continue;
+        }
+        let place = place_at(s, syntax, count == 0, at);
+        let over = place - at;
+        at = place;
+        passed += over;
+        if !is_zero_at(s, place) {
             break taken;
         }
+        at += 1;
+        count += 1;
         taken += 1;
     };
-    skip_answered(Skipped::Zeros(zeros), zeros, passed, here)
+    let end = with_count(moved(state, at), reader, count);
+    skip_answered(Skipped::Zeros(zeros), zeros, passed, end)
 }
 
-// A zero skip with the table lent and what the word says at hand.
-fn skip_zeros_in(
-    values: &[u8; 256],
-    s: &[u8],
-    state: State,
-    syntax: Syntax,
-    reader: Reader,
-) -> SkipAnswer
-    requires { ⌜ now values ≡ digitTable ⌝ }
+// A zero skip with what the word says at hand.
+fn skip_zeros_in(s: &[u8], state: State, syntax: Syntax, reader: Reader) -> SkipAnswer
     ensures { λ r. ⌜ skipOutcomeOf r ≡ skipZerosOf (readingWith syntax) (now (s .entry)) state reader ⌝ }
 {
     let flags = syntax.flags;
     let admitted = admit_skip(s, state, flags, reader);
     match admitted {
-        Admission::Admitted => take_zeros(values, s, state, syntax, reader),
+        Admission::Admitted => take_zeros(s, state, syntax, reader),
         Admission::Refused(refusal) => skip_answered(Skipped::Refused(refusal), 0, 0, state),
     }
 }
@@ -198,7 +190,6 @@ fn skip_zeros_in(
 pub fn skip_zeros(s: &[u8], state: State, reader: Reader) -> SkipAnswer
     ensures { λ r. ⌜ skipOutcomeOf r ≡ skipZerosOf (readingOf (state .format) reader) (now (s .entry)) state reader ⌝ }
 {
-    let values = VALUES;
     let syntax = syntax_of(state.format, reader);
-    skip_zeros_in(&values, s, state, syntax, reader)
+    skip_zeros_in(s, state, syntax, reader)
 }

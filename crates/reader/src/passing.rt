@@ -1,24 +1,26 @@
 // Passing: what a format word says to a reader, and how far the reader's cursor moves over separators at a place.
 ghost use mathlib.Core.Path.{_≡_};
-ghost use mathlib.Core.Bool.{cond};
+ghost use mathlib.Core.Bool.{cond, false};
 ghost use mathlib.Core.Option.{some, none};
 ghost use Prim.Native.Nat.{_+_, _-_, _%_, _^_, _≤_, _<_};
-ghost use lib.ListN.{length, drop};
-ghost use Rattle.word.specs.Digit.{digitTable};
+ghost use lib.ListN.{length, drop, getD};
+ghost use Rattle.word.specs.Word.{mantissaRadix};
 ghost use Rattle.reader.specs.Rule.{ruleOf};
-ghost use Rattle.reader.specs.Place.{byteAt, before, firstOther, separatorRun};
+ghost use Rattle.reader.specs.RuleData.{IsLater};
+ghost use Rattle.reader.specs.Place.{byteAt, before, after, firstOther, separatorRun, nearest};
 ghost use Rattle.reader.specs.Reading.{flagsOf, syntaxOf, readingWith, neighbourOf, previous, following, passedAt};
 use crate::rule;
 use crate::rule::Flags;
+use crate::rule::Later;
 use crate::rule::Neighbour;
 use crate::state::Reader;
-use word::digit::char_is_digit_in;
+use word::digit::char_is_digit_by_range;
 use word::format_flags::Format;
 
 // What a format word says to one reader.
 pub struct Syntax {
     pub separator: u8,
-    pub radix: u32,
+    pub radix: u8,
     pub flags: Flags,
 }
 
@@ -57,13 +59,20 @@ pub(crate) fn flags_of(format: Format, reader: Reader) -> Flags
     }
 }
 
+// The mantissa radix as the byte that it is in the word.
+fn radix_of(format: Format) -> u8
+    ensures { λ r. ⌜ r ≡ mantissaRadix format ⌝ }
+{
+    (format.mantissa_radix() % 256) as u8
+}
+
 pub(crate) fn syntax_of(format: Format, reader: Reader) -> Syntax
     ensures { λ r. ⌜ r ≡ syntaxOf format reader ⌝ }
 {
     let flags = flags_of(format, reader);
     Syntax {
         separator: format.digit_separator(),
-        radix: format.mantissa_radix(),
+        radix: radix_of(format),
         flags,
     }
 }
@@ -80,25 +89,23 @@ fn absent() -> Neighbour
 }
 
 // What a rule asks of a byte.
-fn neighbour(values: &[u8; 256], syntax: Syntax, b: u8) -> Neighbour
-    requires { ⌜ now values ≡ digitTable ⌝ }
+fn neighbour(syntax: Syntax, b: u8) -> Neighbour
     ensures { λ r. ⌜ r ≡ neighbourOf (readingWith syntax) (some b) ⌝ }
 {
     Neighbour {
         exists: true,
-        digit: char_is_digit_in(values, b, syntax.radix),
+        digit: char_is_digit_by_range(b, syntax.radix),
         separator: (syntax.separator != 0) & (b == syntax.separator),
     }
 }
 
 // The same of the byte at an index, which may lie past every buffer.
-fn neighbour_at(values: &[u8; 256], s: &[u8], syntax: Syntax, i: usize) -> Neighbour
-    requires { ⌜ now values ≡ digitTable ⌝ }
+fn neighbour_at(s: &[u8], syntax: Syntax, i: usize) -> Neighbour
     ensures { λ r. ⌜ r ≡ neighbourOf (readingWith syntax) (byteAt (now (s .entry)) i) ⌝ }
 {
     if i < s.len() {
         let b = s[i];
-        return neighbour(values, syntax, b);
+        return neighbour(syntax, b);
     }
     absent()
 }
@@ -142,14 +149,8 @@ fn run_end(s: &[u8], separator: u8, at: usize) -> usize
 
 // The neighbour before a place: the byte just before, or with the consecutive flag the nearest one that is no separator. Where it is
 // not wanted no byte is read.
-fn previous_neighbour(
-    values: &[u8; 256],
-    s: &[u8],
-    syntax: Syntax,
-    wanted: bool,
-    at: usize,
-) -> Neighbour
-    requires { ⌜ (now values ≡ digitTable) × ((0 < syntax .separator) × (at ≤ length (now s))) ⌝ }
+fn previous_neighbour(s: &[u8], syntax: Syntax, wanted: bool, at: usize) -> Neighbour
+    requires { ⌜ (0 < syntax .separator) × (at ≤ length (now s)) ⌝ }
     ensures { λ r. ⌜ r ≡ cond wanted (previous (readingWith syntax) (now (s .entry)) at) (neighbourOf (readingWith syntax) none) ⌝ }
 {
     if !wanted {
@@ -157,21 +158,15 @@ fn previous_neighbour(
     }
     if syntax.flags.consecutive {
         let other = previous_other(s, syntax.separator, at);
-        return neighbour_at(values, s, syntax, other);
+        return neighbour_at(s, syntax, other);
     }
     let i = index_before(at);
-    neighbour_at(values, s, syntax, i)
+    neighbour_at(s, syntax, i)
 }
 
 // The neighbour after a place, likewise.
-fn next_neighbour(
-    values: &[u8; 256],
-    s: &[u8],
-    syntax: Syntax,
-    wanted: bool,
-    at: usize,
-) -> Neighbour
-    requires { ⌜ (now values ≡ digitTable) × ((0 < syntax .separator) × (at < length (now s))) ⌝ }
+fn next_neighbour(s: &[u8], syntax: Syntax, wanted: bool, at: usize) -> Neighbour
+    requires { ⌜ (0 < syntax .separator) × (at < length (now s)) ⌝ }
     ensures { λ r. ⌜ r ≡ cond wanted (following (readingWith syntax) (now (s .entry)) at) (neighbourOf (readingWith syntax) none) ⌝ }
 {
     if !wanted {
@@ -180,26 +175,26 @@ fn next_neighbour(
     let i = at + 1;
     if syntax.flags.consecutive {
         let other = run_end(s, syntax.separator, i);
-        return neighbour_at(values, s, syntax, other);
+        return neighbour_at(s, syntax, other);
     }
-    neighbour_at(values, s, syntax, i)
+    neighbour_at(s, syntax, i)
 }
 
 // Whether the rule lets the separator at a place be passed. Only the neighbours that it names are looked at.
-fn passes(values: &[u8; 256], s: &[u8], syntax: Syntax, first: bool, at: usize) -> bool
-    requires { ⌜ (now values ≡ digitTable) × ((0 < syntax .separator) × (at < length (now s))) ⌝ }
+fn passes(s: &[u8], syntax: Syntax, first: bool, at: usize) -> bool
+    requires { ⌜ (0 < syntax .separator) × (at < length (now s)) ⌝ }
     ensures { λ r. ⌜ r ≡ ruleOf (syntax .flags) first (previous (readingWith syntax) (now (s .entry)) at) (following (readingWith syntax) (now (s .entry)) at) ⌝ }
 {
     let named = rule::names_of(syntax.flags, first);
-    let previous = previous_neighbour(values, s, syntax, named.previous, at);
-    let next = next_neighbour(values, s, syntax, named.next, at);
+    let previous = previous_neighbour(s, syntax, named.previous, at);
+    let next = next_neighbour(s, syntax, named.next, at);
     rule::rule(syntax.flags, first, previous, next)
 }
 
 // Where a cursor lands that passes what it may at a place. Most bytes are no separator, so that compare stands first; a separator 0,
 // which stands for none, is told apart after it.
-pub(crate) fn landing(values: &[u8; 256], s: &[u8], syntax: Syntax, first: bool, at: usize) -> usize
-    requires { ⌜ (now values ≡ digitTable) × (at ≤ length (now s)) ⌝ }
+pub(crate) fn landing(s: &[u8], syntax: Syntax, first: bool, at: usize) -> usize
+    requires { ⌜ at ≤ length (now s) ⌝ }
     ensures { λ r. ⌜ (r ≡ at + passedAt (readingWith syntax) (now (s .entry)) first at) × (r ≤ length (now (s .entry))) ⌝ }
 {
     if s.len() <= at {
@@ -213,7 +208,7 @@ pub(crate) fn landing(values: &[u8; 256], s: &[u8], syntax: Syntax, first: bool,
     if separator == 0 {
         return at;
     }
-    if !passes(values, s, syntax, first, at) {
+    if !passes(s, syntax, first, at) {
         return at;
     }
     let next = at + 1;
@@ -222,4 +217,54 @@ pub(crate) fn landing(values: &[u8; 256], s: &[u8], syntax: Syntax, first: bool,
         return run_end(s, separator, next);
     }
     next
+}
+
+// Where the byte behind a separator stands that its rule looks at; it is also where a cursor lands that passes there.
+fn behind(s: &[u8], syntax: Syntax, at: usize) -> usize
+    requires { ⌜ (0 < syntax .separator) × (at < length (now s)) × (getD (now s) at 0 ≡ syntax .separator) ⌝ }
+    ensures { λ r. ⌜ (byteAt (now (s .entry)) r ≡ nearest (syntax .separator) (syntax .flags .consecutive) (after (now (s .entry)) at)) × (r ≡ at + cond (syntax .flags .consecutive) (separatorRun (syntax .separator) (drop at (now (s .entry)))) 1) × (r ≤ length (now (s .entry))) ⌝ }
+{
+    let next = at + 1;
+    if syntax.flags.consecutive {
+        return run_end(s, syntax.separator, next);
+    }
+    next
+}
+
+// Where a cursor lands at a separator once its reader has counted: no byte before it matters, and none at all where the rule never
+// holds.
+fn later_landing(s: &[u8], syntax: Syntax, later: Later, at: usize) -> usize
+    requires { ⌜ IsLater (syntax .flags) later × (at < length (now s)) × (getD (now s) at 0 ≡ syntax .separator) ⌝ }
+    ensures { λ r. ⌜ (r ≡ at + passedAt (readingWith syntax) (now (s .entry)) false at) × (r ≤ length (now (s .entry))) ⌝ }
+{
+    if syntax.separator == 0 {
+        return at;
+    }
+    if later.never {
+        return at;
+    }
+    let place = behind(s, syntax, at);
+    let next = neighbour_at(s, syntax, place);
+    if rule::passes_before(later.word, next) {
+        return place;
+    }
+    at
+}
+
+// Where a cursor lands at a separator, in a loop over many bytes: most of them are read once the reader has counted, and the rule for
+// those is read before the loop.
+pub(crate) fn separator_landing(
+    s: &[u8],
+    syntax: Syntax,
+    later: Later,
+    first: bool,
+    at: usize,
+) -> usize
+    requires { ⌜ IsLater (syntax .flags) later × (at < length (now s)) × (getD (now s) at 0 ≡ syntax .separator) ⌝ }
+    ensures { λ r. ⌜ (r ≡ at + passedAt (readingWith syntax) (now (s .entry)) first at) × (r ≤ length (now (s .entry))) ⌝ }
+{
+    if first {
+        return landing(s, syntax, true, at);
+    }
+    later_landing(s, syntax, later, at)
 }

@@ -3,8 +3,9 @@
 ghost use mathlib.Core.Path.{_≡_};
 ghost use mathlib.Core.Bool.{cond};
 ghost use Prim.Native.Nat.{_≤_, _<_};
+ghost use Rattle.word.specs.Bits.{bit};
 ghost use Rattle.reader.specs.Rule.{ruleOf, namesOf};
-ghost use Rattle.reader.specs.RuleData.{cellOf, codeOf, IsEntry};
+ghost use Rattle.reader.specs.RuleData.{cellOf, codeOf, IsEntry, IsLater};
 use word::format_flags::bit_at;
 
 // Where a reader may pass separators.
@@ -28,10 +29,19 @@ pub struct Named {
     pub next: bool,
 }
 
+// The rule of a reader that has counted: whether it never holds, and the entry of its cell.
+pub struct Later {
+    pub never: bool,
+    pub word: u64,
+}
+
 // The cells whose rule looks at the byte before the separator, and those that look at the byte after it.
 const NAMES_PREVIOUS: u64 = 0x14545554;
 
 const NAMES_NEXT: u64 = 0x37CCFFDC;
+
+// The cells whose rule never holds.
+const NEVER_HOLDS: u64 = 0x00230023;
 
 // What a bool adds to a number: its weight, or nothing.
 fn weighed(b: bool, weight: u32) -> u32
@@ -108,6 +118,24 @@ pub(crate) fn rule(flags: Flags, first: bool, previous: Neighbour, next: Neighbo
     let position = 8 * code_of(previous) + code_of(next);
     let word = rule_word(cell);
     bit_at(word, position)
+}
+
+// The rule of a reader that has counted. It never looks at the byte before, so the low bits of the entry say all.
+pub(crate) fn later_rule(flags: Flags) -> Later
+    ensures { λ r. ⌜ IsLater flags r ⌝ }
+{
+    let cell = cell_of(flags, false);
+    Later {
+        never: bit_at(NEVER_HOLDS, cell),
+        word: rule_word(cell),
+    }
+}
+
+// What such an entry says of the neighbour after the separator.
+pub(crate) fn passes_before(word: u64, next: Neighbour) -> bool
+    ensures { λ r. ⌜ r ≡ bit word (codeOf next) ⌝ }
+{
+    bit_at(word, code_of(next))
 }
 
 // Which neighbours the rule of a cell looks at.

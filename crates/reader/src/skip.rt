@@ -4,19 +4,21 @@ ghost use mathlib.Core.Bool.{cond, _&&_};
 ghost use Prim.Native.Nat.{_+_, _-_, _≤_, _<_, _^_, min};
 ghost use lib.Dec.{eqb};
 ghost use lib.ListN.{length};
-ghost use Rattle.word.specs.Digit.{digitTable, isDigit};
+ghost use Rattle.word.specs.Digit.{isDigit};
 ghost use Rattle.word.specs.Word.{digitSeparator, mantissaRadix};
 ghost use Rattle.reader.specs.Place.{isSeparator};
 ghost use Rattle.reader.specs.Reading.{syntaxOf, readingWith, readingOf, hasAnyFlag};
-ghost use Rattle.reader.specs.State.{countSum};
-ghost use Rattle.reader.specs.Answer.{lookOutcome, LookFits, outcomeOf, countOutcomeOf, blockOutcomeOf};
+ghost use Rattle.reader.specs.State.{countOf, countSum};
+ghost use Rattle.reader.specs.Answer.{lookOutcome, LookFits, runOutcome, outcomeOf, countOutcomeOf, blockOutcomeOf};
 ghost use Rattle.reader.specs.Calls.{peekOf, nextOf, nextAllOf, takenFrom, shownCount, currentCountOf, peeked, refusalWith};
 ghost use Rattle.reader.specs.Block.{blockFrom, takeNOf, takeNPart};
 use crate::passing::Syntax;
 use crate::passing::flags_of;
 use crate::passing::landing;
+use crate::passing::separator_landing;
 use crate::passing::syntax_of;
 use crate::rule::Flags;
+use crate::rule::later_rule;
 use crate::state::Admission;
 use crate::state::Reader;
 use crate::state::Refusal;
@@ -28,8 +30,7 @@ use crate::state::counted;
 use crate::state::counts_digits;
 use crate::state::moved;
 use crate::state::with_count;
-use word::digit::VALUES;
-use word::digit::char_is_digit_in;
+use word::digit::char_is_digit_by_range;
 use word::format_flags::Format;
 
 // What a peek or a take sees.
@@ -81,6 +82,13 @@ pub enum Looked {
     Refused(Refusal),
 }
 
+// What takes to the end come to, as numbers: the place, the reader's count, and how many separators were passed.
+pub struct Run {
+    pub at: usize,
+    pub count: usize,
+    pub passed: usize,
+}
+
 pub fn is_digit(format: Format, c: u8) -> bool
     ensures { λ r. ⌜ r ≡ isDigit c (mantissaRadix format) ⌝ }
 {
@@ -95,33 +103,26 @@ pub fn is_digit_separator(format: Format, c: u8) -> bool
 }
 
 // Passes what the reader may pass at the cursor, and looks at the byte then under it. All calls begin so.
-pub(crate) fn look(
-    values: &[u8; 256],
-    s: &[u8],
-    state: State,
-    syntax: Syntax,
-    reader: Reader,
-) -> Looked
-    requires { ⌜ now values ≡ digitTable ⌝ }
+pub(crate) fn look(s: &[u8], state: State, syntax: Syntax, reader: Reader) -> Looked
     ensures outcome { λ r. ⌜ lookOutcome state r ≡ peekOf (readingWith syntax) (now (s .entry)) state reader ⌝ }
     ensures fits { λ r. ⌜ LookFits (now (s .entry)) state r ⌝ }
 {
     let flags = syntax.flags;
     let admitted = admit(s, state, flags, reader);
     match admitted {
-        Admission::Admitted => look_past(values, s, state, syntax, reader),
+        Admission::Admitted => look_past(s, state, syntax, reader),
         Admission::Refused(refusal) => Looked::Refused(refusal),
     }
 }
 
 // The same of a state that is not refused.
-fn look_past(values: &[u8; 256], s: &[u8], state: State, syntax: Syntax, reader: Reader) -> Looked
-    requires { ⌜ (now values ≡ digitTable) × (state .cursor ≤ length (now s)) × (countSum state ≤ state .cursor) ⌝ }
+fn look_past(s: &[u8], state: State, syntax: Syntax, reader: Reader) -> Looked
+    requires { ⌜ (state .cursor ≤ length (now s)) × (countSum state ≤ state .cursor) ⌝ }
     ensures outcome { λ r. ⌜ lookOutcome state r ≡ peeked (readingWith syntax) (now (s .entry)) state reader ⌝ }
     ensures fits { λ r. ⌜ LookFits (now (s .entry)) state r ⌝ }
 {
     let at = state.cursor;
-    let place = landing(values, s, syntax, state.count(reader) == 0, at);
+    let place = landing(s, syntax, state.count(reader) == 0, at);
     let passed = place - at;
     if place < s.len() {
         let b = s[place];
@@ -141,12 +142,11 @@ fn answered(seen: Seen, taken: usize, passed: usize, state: State) -> Answer
     Answer { told, state }
 }
 
-// A peek with the table lent and what the word says at hand.
-fn peek_in(values: &[u8; 256], s: &[u8], state: State, syntax: Syntax, reader: Reader) -> Answer
-    requires { ⌜ now values ≡ digitTable ⌝ }
+// A peek with what the word says at hand.
+fn peek_in(s: &[u8], state: State, syntax: Syntax, reader: Reader) -> Answer
     ensures { λ r. ⌜ outcomeOf r ≡ peekOf (readingWith syntax) (now (s .entry)) state reader ⌝ }
 {
-    let looked = look(values, s, state, syntax, reader);
+    let looked = look(s, state, syntax, reader);
     match looked {
         Looked::Byte(b, place, passed) => answered(Seen::Byte(b), 0, passed, moved(state, place)),
         Looked::End(place, passed) => answered(Seen::End, 0, passed, moved(state, place)),
@@ -158,35 +158,33 @@ fn peek_in(values: &[u8; 256], s: &[u8], state: State, syntax: Syntax, reader: R
 pub fn peek(s: &[u8], state: State, reader: Reader) -> Answer
     ensures { λ r. ⌜ outcomeOf r ≡ peekOf (readingOf (state .format) reader) (now (s .entry)) state reader ⌝ }
 {
-    let values = VALUES;
     let syntax = syntax_of(state.format, reader);
-    peek_in(&values, s, state, syntax, reader)
+    peek_in(s, state, syntax, reader)
 }
 
 // The state behind a byte that the reader takes: a reader with any flag counts a digit.
-fn past_byte(values: &[u8; 256], state: State, syntax: Syntax, reader: Reader, b: u8) -> State
-    requires { ⌜ (now values ≡ digitTable) × (state .cursor + 1 < 2 ^ 64) × (countSum state ≤ state .cursor) ⌝ }
+fn past_byte(state: State, syntax: Syntax, reader: Reader, b: u8) -> State
+    requires { ⌜ (state .cursor + 1 < 2 ^ 64) × (countSum state ≤ state .cursor) ⌝ }
     ensures { λ r. ⌜ r ≡ takenFrom (readingWith syntax) reader b state ⌝ }
 {
     let next = moved(state, state.cursor + 1);
     let flags = syntax.flags;
     if (flags.internal | flags.leading | flags.trailing | flags.consecutive)
-        & char_is_digit_in(values, b, syntax.radix)
+        & char_is_digit_by_range(b, syntax.radix)
     {
         return counted(next, reader);
     }
     next
 }
 
-// A take with the table lent and what the word says at hand, for calls that take many bytes.
-fn next_in(values: &[u8; 256], s: &[u8], state: State, syntax: Syntax, reader: Reader) -> Answer
-    requires { ⌜ now values ≡ digitTable ⌝ }
+// A take with what the word says at hand, for calls that take many bytes.
+fn next_in(s: &[u8], state: State, syntax: Syntax, reader: Reader) -> Answer
     ensures { λ r. ⌜ outcomeOf r ≡ nextOf (readingWith syntax) (now (s .entry)) state reader ⌝ }
 {
-    let looked = look(values, s, state, syntax, reader);
+    let looked = look(s, state, syntax, reader);
     match looked {
         Looked::Byte(b, place, passed) => {
-            let next = past_byte(values, moved(state, place), syntax, reader, b);
+            let next = past_byte(moved(state, place), syntax, reader, b);
             answered(Seen::Byte(b), 1, passed, next)
         }
         Looked::End(place, passed) => answered(Seen::End, 0, passed, moved(state, place)),
@@ -198,66 +196,87 @@ fn next_in(values: &[u8; 256], s: &[u8], state: State, syntax: Syntax, reader: R
 pub fn next(s: &[u8], state: State, reader: Reader) -> Answer
     ensures { λ r. ⌜ outcomeOf r ≡ nextOf (readingOf (state .format) reader) (now (s .entry)) state reader ⌝ }
 {
-    let values = VALUES;
     let syntax = syntax_of(state.format, reader);
-    next_in(&values, s, state, syntax, reader)
+    next_in(s, state, syntax, reader)
 }
 
 // The reader's count after a byte that it takes.
-fn count_past(values: &[u8; 256], counts: bool, b: u8, radix: u32, count: usize) -> usize
-    requires { ⌜ (now values ≡ digitTable) × (count + 1 < 2 ^ 64) ⌝ }
+fn count_past(counts: bool, b: u8, radix: u8, count: usize) -> usize
+    requires { ⌜ count + 1 < 2 ^ 64 ⌝ }
     ensures { λ r. ⌜ r ≡ cond (counts && isDigit b radix) (count + 1) count ⌝ }
 {
-    if counts & char_is_digit_in(values, b, radix) {
+    if counts & char_is_digit_by_range(b, radix) {
         return count + 1;
     }
     count
 }
 
-// Takes until there is no byte, from a state that is not refused. The loop keeps numbers only, and makes the state at its end; most
-// bytes are no separator, so that compare stands first.
-fn take_all(values: &[u8; 256], s: &[u8], state: State, syntax: Syntax, reader: Reader) -> Answer
-    requires { ⌜ (now values ≡ digitTable) × (refusalWith (syntax .flags) (now s) state reader ≡ 0) ⌝ }
-    ensures { λ r. ⌜ outcomeOf r ≡ nextAllOf (readingWith syntax) (now (s .entry)) state reader ⌝ }
+// Takes until there is no byte, from a state that is not refused. The loop keeps numbers only; most bytes are no separator, so that
+// compare stands first. The state is there for the contract alone: its numbers come beside it.
+pub(crate) fn take_run(
+    s: &[u8],
+    state: State,
+    syntax: Syntax,
+    reader: Reader,
+    start: usize,
+    counted: usize,
+) -> Run
+    requires { ⌜ (refusalWith (syntax .flags) (now s) state reader ≡ 0) × (start ≡ state .cursor) × (counted ≡ countOf state reader) ⌝ }
+    ensures outcome { λ r. ⌜ runOutcome state reader r ≡ nextAllOf (readingWith syntax) (now (s .entry)) state reader ⌝ }
+    ensures fits { λ r. ⌜ (start + r .passed ≤ r .at) × (r .at ≤ length (now (s .entry))) × (r .count ≤ r .at) ⌝ }
 {
     let separator = syntax.separator;
     let radix = syntax.radix;
     let counts = counts_digits(syntax.flags, reader);
-    let start = state.cursor;
+    let later = later_rule(syntax.flags);
     let mut at = start;
-    let mut count = state.count(reader);
+    let mut count = counted;
     let mut passed: usize = 0;
     while at < s.len() {
         let b = s[at];
         if b != separator {
-            count = count_past(values, counts, b, radix, count);
+            count = count_past(counts, b, radix, count);
             at += 1;
             continue;
         }
-        let place = landing(values, s, syntax, count == 0, at);
+        let place = separator_landing(s, syntax, later, count == 0, at);
         let over = place - at;
         if s.len() <= place {
-            let end = with_count(moved(state, place), reader, count);
-            return answered(Seen::End, at - start - passed, passed + over, end);
+            let all = passed + over;
+            return Run {
+                at: place,
+                count,
+                passed: all,
+            };
         }
         let c = s[place];
-        count = count_past(values, counts, c, radix, count);
+        count = count_past(counts, c, radix, count);
         at = place + 1;
         passed += over;
     }
-    let end = with_count(moved(state, at), reader, count);
-    answered(Seen::End, at - start - passed, passed, end)
+    Run { at, count, passed }
 }
 
-// Takes until there is no byte, with the table lent and what the word says at hand.
-fn next_all_in(values: &[u8; 256], s: &[u8], state: State, syntax: Syntax, reader: Reader) -> Answer
-    requires { ⌜ now values ≡ digitTable ⌝ }
+// The same, with the state made at the end.
+fn take_all(s: &[u8], state: State, syntax: Syntax, reader: Reader) -> Answer
+    requires { ⌜ refusalWith (syntax .flags) (now s) state reader ≡ 0 ⌝ }
+    ensures { λ r. ⌜ outcomeOf r ≡ nextAllOf (readingWith syntax) (now (s .entry)) state reader ⌝ }
+{
+    let start = state.cursor;
+    let run = take_run(s, state, syntax, reader, start, state.count(reader));
+    let end = with_count(moved(state, run.at), reader, run.count);
+    let taken = run.at - start - run.passed;
+    answered(Seen::End, taken, run.passed, end)
+}
+
+// Takes until there is no byte, with what the word says at hand.
+fn next_all_in(s: &[u8], state: State, syntax: Syntax, reader: Reader) -> Answer
     ensures { λ r. ⌜ outcomeOf r ≡ nextAllOf (readingWith syntax) (now (s .entry)) state reader ⌝ }
 {
     let flags = syntax.flags;
     let admitted = admit(s, state, flags, reader);
     match admitted {
-        Admission::Admitted => take_all(values, s, state, syntax, reader),
+        Admission::Admitted => take_all(s, state, syntax, reader),
         Admission::Refused(refusal) => answered(Seen::Refused(refusal), 0, 0, state),
     }
 }
@@ -266,9 +285,8 @@ fn next_all_in(values: &[u8; 256], s: &[u8], state: State, syntax: Syntax, reade
 pub fn next_all(s: &[u8], state: State, reader: Reader) -> Answer
     ensures { λ r. ⌜ outcomeOf r ≡ nextAllOf (readingOf (state .format) reader) (now (s .entry)) state reader ⌝ }
 {
-    let values = VALUES;
     let syntax = syntax_of(state.format, reader);
-    next_all_in(&values, s, state, syntax, reader)
+    next_all_in(s, state, syntax, reader)
 }
 
 // The count that the crate shows where a reader has no flag.

@@ -1,7 +1,5 @@
--- `reader::iterator::read_if` meets its contract: the table is that of the definition, and the word's syntax is read once.
--- Assumes nothing.
-use mathlib.Core.Path.{_∙_, refl, ap}
-use Rattle.word.specs.Digit.{digitTable, digitValue}
+-- `reader::iterator::read_if` meets its contract: the word's syntax is read once. Assumes nothing.
+use mathlib.Core.Path.{_∙_, ap}
 use Rattle.word.specs.ByteSet.{member}
 use Rattle.reader.specs.declared.passing.Syntax.{Syntax}
 use Rattle.reader.specs.Reading.{readingWith}
@@ -14,12 +12,11 @@ syntax-of-requires : tie.Need-syntax-of-requires
 syntax-of-requires c κs = search needs
 
 read-in-requires : tie.Need-read-in-requires
-unfolding digitTable digitValue
-read-in-requires c κs = refl
+read-in-requires c κs = search needs
 
 returns : tie.Need-returns
 returns c =
-    let x = c .before .before in
+    let x = c .before in
     let a = x .before .before .args in
     c .read-in .ensures ∙ ap (λ (y : Syntax). readIfOf (readingWith y) (a .s .now) (a .state) (a .reader) (member (a .set))) (x .syntax-of .ensures)
 

@@ -16,7 +16,7 @@ enum-told c = search needs
 take-zeros-requires : tie.Need-take-zeros-requires
 take-zeros-requires c κs =
     let d = c .before .before in
-    (d .before .before .before .pre, sym (d .admit-skip .ensures) ∙ ap admissionNumber (c .enum-told .given .1))
+    sym (d .admit-skip .ensures) ∙ ap admissionNumber (c .enum-told .given .1)
 
 enum-known-admitted : tie.Need-enum-known-admitted
 enum-known-admitted c = search needs

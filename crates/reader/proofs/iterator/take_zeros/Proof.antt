@@ -1,69 +1,143 @@
--- `reader::iterator::take_zeros` meets its contract: the loop is a list of reads of `0` (proofs/Zeros.antt), each of which moves the cursor
--- on. Assumes nothing.
-use mathlib.Core.Path.{_∙_}
+-- `reader::iterator::take_zeros` meets its contract: the loop's numbers are those of a list of reads of `0` (proofs/Skipping.antt), and
+-- each turn moves the place on. Assumes nothing.
+use mathlib.Core.Path.{_∙_, sym}
 use Prim.Native.Nat.{_-_}
 use native.Mathlib.Omega.{arith}
 use borrow.Author.Needs.{needs}
+use borrow.Author.Tests.{not-true, not-false}
+use lib.Dec.{eqb}
 use lib.ListN.{length}
 use Rattle.reader.specs.Reading.{readingWith}
-use Rattle.reader.specs.ZeroSkip.{zeroReadOf}
-use Rattle.reader.proofs.Repeats.{Repeating, repeating-starts}
-use Rattle.reader.proofs.Zeros.{turn-fits, turn-takes, turn-goes-on, turn-ends, skip-admitted}
+use Rattle.reader.proofs.Skipping.{plain-zero, Skipping, skipping-starts, skipping-sums, skipping-room, skipping-on, skipping-by-one, skipping-over}
 use Rattle.reader.proofs.iterator.take_zeros.Statement.{statement}
 use Rattle.reader.proofs.iterator.take_zeros.Tie as tie
 
 abbrev Inv-loop : tie.InvT-loop
-Inv-loop values s syntax reader zero here₀ taken₀ passed₀ here taken passed =
-    Repeating s (zeroReadOf (readingWith syntax) s reader) here₀ taken passed here
+Inv-loop s state syntax reader separator at₀ count₀ taken₀ passed₀ at count taken passed =
+    Skipping (readingWith syntax) s reader state at count taken passed
 
 abbrev μ-loop : tie.MeasureT-loop
-μ-loop values s syntax reader zero here₀ taken₀ passed₀ here taken passed = length s - here .cursor
+μ-loop s state syntax reader separator at₀ count₀ taken₀ passed₀ at count taken passed = length s - at
 
-from-byte-requires : tie.Need-from-byte-requires Inv-loop μ-loop
-from-byte-requires c κs = search needs
+count-requires : tie.Need-count-requires Inv-loop μ-loop
+count-requires c κs = search needs
 
 loop-holds : tie.Need-loop-holds Inv-loop μ-loop
+unfolding readingWith
 loop-holds c =
-    let a = c .before .before .args in
-    repeating-starts (a .s .now) (zeroReadOf (readingWith (a .syntax)) (a .s .now) (a .reader)) (a .state)
+    let b = c .before .before in
+    let a = b .args in
+    rw (c .count .ensures) (skipping-starts (readingWith (a .syntax)) (a .s .now) (a .reader) (a .state) (b .pre))
 
-read-zero-requires : tie.Need-read-zero-requires Inv-loop μ-loop
-read-zero-requires c κs =
-    let d = c .before in
-    (d .before .before .pre .0, d .from-byte .ensures)
+is-zero-at-requires : tie.Need-is-zero-at-requires Inv-loop μ-loop
+is-zero-at-requires c κs = search needs
 
-add-passed : tie.Need-add-passed Inv-loop μ-loop
-add-passed c =
-    let z = c .before .before .before in
-    let l = z .before in
-    let d = l .before in
-    let a = d .before .before .args in
-    omega (arith, turn-fits (readingWith (a .syntax)) (a .s .now) (a .reader) (a .state) (l .loop .taken) (l .loop .passed) (l .loop .here) (l .loop .inv) (z .read-zero .result) (z .read-zero .ensures))
+add-at : tie.Need-add-at Inv-loop μ-loop
+add-at c =
+    let l = c .before .before in
+    let a = l .before .before .before .args in
+    let plain = plain-zero (a .syntax) (a .s .now) (l .loop .at) (c .before .is-zero-at .result) (c .before .is-zero-at .ensures) (c .if1 .taken) in
+    omega (arith, skipping-room (readingWith (a .syntax)) (a .s .now) (a .reader) (a .state) (l .loop .at) (l .loop .count) (l .loop .taken) (l .loop .passed) (l .loop .inv) (l .loop .at) (omega arith) (plain .zero) .0)
+
+add-count : tie.Need-add-count Inv-loop μ-loop
+add-count c =
+    let l = c .before .before in
+    let a = l .before .before .before .args in
+    let plain = plain-zero (a .syntax) (a .s .now) (l .loop .at) (c .before .is-zero-at .result) (c .before .is-zero-at .ensures) (c .if1 .taken) in
+    omega (arith, skipping-room (readingWith (a .syntax)) (a .s .now) (a .reader) (a .state) (l .loop .at) (l .loop .count) (l .loop .taken) (l .loop .passed) (l .loop .inv) (l .loop .at) (omega arith) (plain .zero) .1)
 
 add-taken : tie.Need-add-taken Inv-loop μ-loop
 add-taken c =
-    let z = c .before .before .before .before .before in
-    let l = z .before in
-    let d = l .before in
-    let a = d .before .before .args in
-    omega (arith, l .loop .inv .moves, turn-takes (readingWith (a .syntax)) (a .s .now) (a .reader) (a .state) (l .loop .taken) (l .loop .passed) (l .loop .here) (l .loop .inv) (z .read-zero .result) (z .read-zero .ensures) (λ e. omega (arith, c .if1 .left)) .inside)
+    let l = c .before .before in
+    let a = l .before .before .before .args in
+    let plain = plain-zero (a .syntax) (a .s .now) (l .loop .at) (c .before .is-zero-at .result) (c .before .is-zero-at .ensures) (c .if1 .taken) in
+    omega (arith, skipping-room (readingWith (a .syntax)) (a .s .now) (a .reader) (a .state) (l .loop .at) (l .loop .count) (l .loop .taken) (l .loop .passed) (l .loop .inv) (l .loop .at) (omega arith) (plain .zero) .2)
 
 loop-less : tie.Need-loop-less Inv-loop μ-loop
 loop-less c =
-    let z = c .before .before .before .before .before in
-    let l = z .before in
-    let d = l .before in
-    let a = d .before .before .args in
-    let one = turn-takes (readingWith (a .syntax)) (a .s .now) (a .reader) (a .state) (l .loop .taken) (l .loop .passed) (l .loop .here) (l .loop .inv) (z .read-zero .result) (z .read-zero .ensures) (λ e. omega (arith, c .if1 .left)) in
-    omega (arith, one .moves, one .inside)
+    let l = c .before .before in
+    let a = l .before .before .before .args in
+    let plain = plain-zero (a .syntax) (a .s .now) (l .loop .at) (c .before .is-zero-at .result) (c .before .is-zero-at .ensures) (c .if1 .taken) in
+    omega (arith, skipping-room (readingWith (a .syntax)) (a .s .now) (a .reader) (a .state) (l .loop .at) (l .loop .count) (l .loop .taken) (l .loop .passed) (l .loop .inv) (l .loop .at) (omega arith) (plain .zero) .0)
 
 loop-again : tie.Need-loop-again Inv-loop μ-loop
+unfolding readingWith
 loop-again c =
-    let z = c .before .before .before .before .before in
-    let l = z .before in
-    let d = l .before in
-    let a = d .before .before .args in
-    turn-goes-on (readingWith (a .syntax)) (a .s .now) (a .reader) (a .state) (l .loop .taken) (l .loop .passed) (l .loop .here) (l .loop .inv) (z .read-zero .result) (z .read-zero .ensures) (λ e. omega (arith, c .if1 .left))
+    let l = c .before .before in
+    let b = l .before .before .before in
+    let a = b .args in
+    let plain = plain-zero (a .syntax) (a .s .now) (l .loop .at) (c .before .is-zero-at .result) (c .before .is-zero-at .ensures) (c .if1 .taken) in
+    skipping-by-one (readingWith (a .syntax)) (a .s .now) (a .reader) (a .state) (b .pre) (l .loop .at) (l .loop .count) (l .loop .taken) (l .loop .passed) (l .loop .inv)
+    (plain .stays (eqb (l .loop .count) 0)) (plain .zero)
+
+place-at-requires : tie.Need-place-at-requires Inv-loop μ-loop
+place-at-requires c κs = omega (arith, c .before .before .loop .inv .stands .inside)
+
+sub-over : tie.Need-sub-over Inv-loop μ-loop
+sub-over c = omega (arith, c .place-at .ensures .0)
+
+add-passed : tie.Need-add-passed Inv-loop μ-loop
+add-passed c =
+    let l = c .before .before .before in
+    let a = l .before .before .before .args in
+    omega (arith, c .place-at .ensures .0, c .place-at .ensures .1, skipping-sums (readingWith (a .syntax)) (a .s .now) (a .reader) (a .state) (l .loop .at) (l .loop .count) (l .loop .taken) (l .loop .passed) (l .loop .inv))
+
+is-zero-at-requires-2 : tie.Need-is-zero-at-requires-2 Inv-loop μ-loop
+is-zero-at-requires-2 c κs = search needs
+
+add-at-2 : tie.Need-add-at-2 Inv-loop μ-loop
+add-at-2 c =
+    let z = c .before in
+    let p = z .before in
+    let l = p .before .before .before in
+    let a = l .before .before .before .args in
+    let zero = sym (z .is-zero-at2 .ensures) ∙ not-false _ (c .if2 .left) in
+    omega (arith, skipping-room (readingWith (a .syntax)) (a .s .now) (a .reader) (a .state) (l .loop .at) (l .loop .count) (l .loop .taken) (l .loop .passed) (l .loop .inv) (p .place-at .result) (omega (arith, p .place-at .ensures .0)) zero .0)
+
+add-count-2 : tie.Need-add-count-2 Inv-loop μ-loop
+add-count-2 c =
+    let z = c .before in
+    let p = z .before in
+    let l = p .before .before .before in
+    let a = l .before .before .before .args in
+    let zero = sym (z .is-zero-at2 .ensures) ∙ not-false _ (c .if2 .left) in
+    omega (arith, skipping-room (readingWith (a .syntax)) (a .s .now) (a .reader) (a .state) (l .loop .at) (l .loop .count) (l .loop .taken) (l .loop .passed) (l .loop .inv) (p .place-at .result) (omega (arith, p .place-at .ensures .0)) zero .1)
+
+add-taken-2 : tie.Need-add-taken-2 Inv-loop μ-loop
+add-taken-2 c =
+    let z = c .before in
+    let p = z .before in
+    let l = p .before .before .before in
+    let a = l .before .before .before .args in
+    let zero = sym (z .is-zero-at2 .ensures) ∙ not-false _ (c .if2 .left) in
+    omega (arith, skipping-room (readingWith (a .syntax)) (a .s .now) (a .reader) (a .state) (l .loop .at) (l .loop .count) (l .loop .taken) (l .loop .passed) (l .loop .inv) (p .place-at .result) (omega (arith, p .place-at .ensures .0)) zero .2)
+
+loop-less-2 : tie.Need-loop-less-2 Inv-loop μ-loop
+loop-less-2 c =
+    let z = c .before in
+    let p = z .before in
+    let l = p .before .before .before in
+    let a = l .before .before .before .args in
+    let zero = sym (z .is-zero-at2 .ensures) ∙ not-false _ (c .if2 .left) in
+    omega (arith, p .place-at .ensures .0, skipping-room (readingWith (a .syntax)) (a .s .now) (a .reader) (a .state) (l .loop .at) (l .loop .count) (l .loop .taken) (l .loop .passed) (l .loop .inv) (p .place-at .result) (omega (arith, p .place-at .ensures .0)) zero .0)
+
+loop-again-2 : tie.Need-loop-again-2 Inv-loop μ-loop
+unfolding readingWith
+loop-again-2 c =
+    let z = c .before in
+    let p = z .before in
+    let l = p .before .before .before in
+    let b = l .before .before .before in
+    let a = b .args in
+    let zero = sym (z .is-zero-at2 .ensures) ∙ not-false _ (c .if2 .left) in
+    skipping-on (readingWith (a .syntax)) (a .s .now) (a .reader) (a .state) (b .pre) (l .loop .at) (l .loop .count) (l .loop .taken) (l .loop .passed) (l .loop .inv)
+    (p .place-at .result) (p .place-at .ensures .0) zero
+
+moved-requires : tie.Need-moved-requires Inv-loop μ-loop
+moved-requires c κs = search needs
+
+with-count-requires : tie.Need-with-count-requires Inv-loop μ-loop
+with-count-requires c κs = search needs
 
 skip-answered-requires : tie.Need-skip-answered-requires Inv-loop μ-loop
 skip-answered-requires c κs = search needs
@@ -71,13 +145,15 @@ skip-answered-requires c κs = search needs
 returns : tie.Need-returns Inv-loop μ-loop
 unfolding readingWith
 returns c =
-    let z = c .before .before .before .before .before .before in
-    let l = z .before in
-    let d = l .before in
-    let a = d .before .before .args in
-    rw (c .skip-answered .ensures)
-    (turn-ends (readingWith (a .syntax)) (a .s .now) (a .reader) (a .state) (l .loop .taken) (l .loop .passed) (l .loop .here) (l .loop .inv) (z .read-zero .result) (z .read-zero .ensures) (omega (arith, c .before .if1 .taken))
-    ∙ skip-admitted (readingWith (a .syntax)) (a .s .now) (a .state) (a .reader) (d .before .before .pre .1))
+    let t = c .before .before .before in
+    let z = t .before in
+    let p = z .before in
+    let l = p .before .before .before in
+    let b = l .before .before .before in
+    let a = b .args in
+    rw (c .skip-answered .ensures, c .before .with-count .ensures, c .before .before .moved .ensures)
+    (skipping-over (readingWith (a .syntax)) (a .s .now) (a .reader) (a .state) (b .pre) (l .loop .at) (l .loop .count) (l .loop .taken) (l .loop .passed) (l .loop .inv)
+    (p .place-at .result) (p .place-at .ensures .0) (sym (z .is-zero-at2 .ensures) ∙ not-true _ (t .if2 .taken)))
 
 pub take-zeros-spec : {M : Type 1} → statement M
 take-zeros-spec =
@@ -85,12 +161,24 @@ take-zeros-spec =
     (tie.spec
     Inv-loop
     μ-loop
-    from-byte-requires
+    count-requires
     loop-holds
-    read-zero-requires
-    add-passed
+    is-zero-at-requires
+    add-at
+    add-count
     add-taken
     loop-less
     loop-again
+    place-at-requires
+    sub-over
+    add-passed
+    is-zero-at-requires-2
+    add-at-2
+    add-count-2
+    add-taken-2
+    loop-less-2
+    loop-again-2
+    moved-requires
+    with-count-requires
     skip-answered-requires
     returns)

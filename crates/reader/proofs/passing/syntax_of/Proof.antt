@@ -10,13 +10,13 @@ flags-of-requires c κs = search needs
 digit-separator-requires : tie.Need-digit-separator-requires
 digit-separator-requires c κs = search needs
 
-mantissa-radix-requires : tie.Need-mantissa-radix-requires
-mantissa-radix-requires c κs = search needs
+radix-of-requires : tie.Need-radix-of-requires
+radix-of-requires c κs = search needs
 
 returns : tie.Need-returns
 unfolding syntaxOf
-returns c = rw (c .before .before .flags-of .ensures, c .before .digit-separator .ensures, c .mantissa-radix .ensures)
+returns c = rw (c .before .before .flags-of .ensures, c .before .digit-separator .ensures, c .radix-of .ensures)
 
 pub syntax-of-spec : {M : Type 1} → statement M
 syntax-of-spec =
-    tie.close (tie.spec flags-of-requires digit-separator-requires mantissa-radix-requires returns)
+    tie.close (tie.spec flags-of-requires digit-separator-requires radix-of-requires returns)

@@ -20,7 +20,7 @@ look-past-requires c κs =
     let a = d .before .before .before .args in
     let clear = sym (d .admit .ensures) ∙ ap admissionNumber (c .enum-told .given .1) in
     let bounds = within (a .syntax .flags) (a .s .now) (a .state) (a .reader) clear in
-    (d .before .before .before .pre, bounds .0, bounds .1)
+    (bounds .0, bounds .1)
 
 enum-known-admitted : tie.Need-enum-known-admitted
 enum-known-admitted c = search needs

@@ -18,7 +18,7 @@ enum-told c = search needs
 take-all-requires : tie.Need-take-all-requires
 take-all-requires c κs =
     let d = c .before .before in
-    (d .before .before .before .pre, sym (d .admit .ensures) ∙ ap admissionNumber (c .enum-told .given .1))
+    sym (d .admit .ensures) ∙ ap admissionNumber (c .enum-told .given .1)
 
 enum-known-admitted : tie.Need-enum-known-admitted
 enum-known-admitted c = search needs

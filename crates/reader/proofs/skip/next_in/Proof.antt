@@ -25,7 +25,7 @@ past-byte-requires c κs =
     let l = k .before .before in
     let a = l .before .before .args in
     let fits = rw (k .looked .given .1) at (l .look .ensures .1) in
-    rw (c .moved .ensures) (l .before .before .pre, omega (arith, fits .0), fits .1)
+    rw (c .moved .ensures) (omega (arith, fits .0), fits .1)
 
 answered-requires : tie.Need-answered-requires
 answered-requires c κs = search needs

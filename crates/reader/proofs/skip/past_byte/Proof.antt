@@ -2,7 +2,6 @@
 use mathlib.Core.Path.{_≡_, _∙_, sym}
 use mathlib.Core.Bool.{true, _&&_}
 use native.Mathlib.Omega.{arith}
-use Rattle.word.proofs.Digits.{lent-table}
 use Rattle.reader.specs.State.{movedTo}
 use Rattle.reader.specs.Reading.{readingWith, hasAnyFlag}
 use borrow.Author.Needs.{needs}
@@ -15,14 +14,14 @@ add-moved c = search needs
 moved-requires : tie.Need-moved-requires
 moved-requires c κs = search needs
 
-char-is-digit-in-requires : tie.Need-char-is-digit-in-requires
-char-is-digit-in-requires c κs = search needs
+char-is-digit-by-range-requires : tie.Need-char-is-digit-by-range-requires
+char-is-digit-by-range-requires c κs = search needs
 
 counted-requires : tie.Need-counted-requires
 unfolding movedTo
 counted-requires c κs =
     let m = c .before .before .before .before .before .before in
-    rw (m .moved .ensures) (omega (arith, m .before .before .pre .1, m .before .before .pre .2))
+    rw (m .moved .ensures) (omega (arith, m .before .before .pre .0, m .before .before .pre .1))
 
 returns : tie.Need-returns
 unfolding readingWith
@@ -30,10 +29,9 @@ returns c =
     let d = c .before .before in
     let m = d .before .before .before .before .before in
     let a = m .before .before .args in
-    let counts : (hasAnyFlag (a .syntax .flags) && d .char-is-digit-in .result) ≡ true = c .before .if1 .taken in
+    let counts : (hasAnyFlag (a .syntax .flags) && d .char-is-digit-by-range .result) ≡ true = c .before .if1 .taken in
     rw (
-      sym (lent-table (a .values .now) (a .b) (a .syntax .radix) (m .before .before .pre .0) (search needs)),
-      sym (d .char-is-digit-in .ensures),
+      sym (d .char-is-digit-by-range .ensures),
       counts,
     )
     (c .counted .ensures ∙ rw (m .moved .ensures))
@@ -45,8 +43,7 @@ returns-2 c =
     let m = d .before .before .before .before .before in
     let a = m .before .before .args in
     rw (
-      sym (lent-table (a .values .now) (a .b) (a .syntax .radix) (m .before .before .pre .0) (search needs)),
-      sym (d .char-is-digit-in .ensures),
+      sym (d .char-is-digit-by-range .ensures),
       c .if1 .left,
     )
     (m .moved .ensures)
@@ -57,7 +54,7 @@ past-byte-spec =
     (tie.spec
     add-moved
     moved-requires
-    char-is-digit-in-requires
+    char-is-digit-by-range-requires
     counted-requires
     returns
     returns-2)

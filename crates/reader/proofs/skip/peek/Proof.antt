@@ -1,6 +1,5 @@
--- `reader::skip::peek` meets its contract: the table is that of the definition, and the word's syntax is read once. Assumes nothing.
-use mathlib.Core.Path.{_∙_, refl, ap}
-use Rattle.word.specs.Digit.{digitTable, digitValue}
+-- `reader::skip::peek` meets its contract: the word's syntax is read once. Assumes nothing.
+use mathlib.Core.Path.{_∙_, ap}
 use Rattle.reader.specs.declared.passing.Syntax.{Syntax}
 use Rattle.reader.specs.Reading.{readingWith}
 use Rattle.reader.specs.Calls.{peekOf}
@@ -12,12 +11,11 @@ syntax-of-requires : tie.Need-syntax-of-requires
 syntax-of-requires c κs = search needs
 
 peek-in-requires : tie.Need-peek-in-requires
-unfolding digitTable digitValue
-peek-in-requires c κs = refl
+peek-in-requires c κs = search needs
 
 returns : tie.Need-returns
 returns c =
-    let x = c .before .before in
+    let x = c .before in
     let a = x .before .before .args in
     c .peek-in .ensures ∙ ap (λ (y : Syntax). peekOf (readingWith y) (a .s .now) (a .state) (a .reader)) (x .syntax-of .ensures)
 
