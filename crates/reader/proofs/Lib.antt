@@ -39,3 +39,7 @@ pub mod Answering
 pub mod Demand3
 pub mod Refusals
 pub mod Accepted
+pub mod PairLaws
+pub mod ColumnLaws
+pub mod Ordinary
+pub mod Stretches

@@ -5,6 +5,7 @@ pub mod Reading
 pub mod State
 pub mod Answer
 pub mod Repeat
+pub mod Pairs
 pub mod Calls
 pub mod ZeroSkip
 pub mod Block
@@ -12,3 +13,5 @@ pub mod Bytes
 pub mod History
 pub mod ByteTally
 pub mod Plain
+pub mod Column
+pub mod Ordinary

@@ -1,0 +1,144 @@
+-- Laws of the cells of a column: when a cell is ordinary, when a buffer is quick, and what a stretch and a cell add. Assumes nothing.
+use mathlib.Core.Path.{_≡_, refl, sym, ap, _∙_}
+use mathlib.Core.Bool.{Bool, true, false, cond, _&&_, false≢true}
+use mathlib.Core.List.{List, [], _∷_}
+use Prim.Native.Nat.{ℕ, zero, suc, _+_, _-_, _≤_, _<_}
+use native.Mathlib.Numerals.{add-one}
+use native.Mathlib.Omega.{arith}
+use borrow.Author.Tests.{eq-eqb}
+use lib.Dec.{eqb}
+use lib.ListN.{length, getD, length-drop, length-take}
+use lib.Seq.{getD-take, getD-drop}
+use Rattle.word.specs.Digit.{isDigit}
+use Rattle.word.specs.declared.format_flags.Format.{Format}
+use Rattle.reader.specs.declared.state.Reader.{Reader}
+use Rattle.reader.specs.declared.state.Reader.the-variants.{Integer, Fraction, Exponent, Special}
+use Rattle.reader.specs.declared.state.State.{State}
+use Rattle.reader.specs.declared.passing.Syntax.{Syntax}
+use Rattle.reader.specs.declared.skip.Run.{Run}
+use Rattle.reader.specs.declared.column.Totals.{Totals}
+use Rattle.reader.specs.State.{freshOf, isCounted, movedTo, countOf, withCount}
+use Rattle.reader.specs.Reading.{Reading, hasAnyFlag}
+use Rattle.reader.specs.Answer.{runOutcome}
+use Rattle.reader.specs.Calls.{nextAllOf, countedOnes}
+use Rattle.reader.specs.Pairs.{pairsOf}
+use Rattle.reader.specs.Column.{noTotals, cellTotals, totalsOf, partFrom}
+use Rattle.reader.specs.Ordinary.{Quick, Ordinary, passing, doubles, beforeDigits, digitsIn, ordinaryTotals}
+use Rattle.reader.proofs.Places.{no-separator}
+
+-- A part of a slice: its length, its bytes, and when it is an ordinary cell.
+module _ (s : List ℕ) (start end : ℕ) (ordered : start ≤ end) (inside : end ≤ length s) where
+  pub part-length : length (partFrom s start end) ≡ end - start
+  part-length = simp (length-take, length-drop) (omega arith)
+
+  pub part-byte : (i : ℕ) → i < end - start → getD (partFrom s start end) i 0 ≡ getD s (start + i) 0
+  part-byte i h = rw (getD-take, getD-drop)
+
+  pub empty-cell : (x : Syntax) → end ≤ start → Ordinary x (partFrom s start end)
+  empty-cell x empty =
+      record { begins = λ h. absurd (omega (arith, part-length)); ends = λ h. absurd (omega (arith, part-length)) }
+
+  pub ordinary-cell :
+      (x : Syntax) → start < end → isDigit (getD s start 0) (x .radix) ≡ true → (getD s (end - 1) 0 ≡ x .separator → ⊥)
+      → Ordinary x (partFrom s start end)
+  ordinary-cell x some digit other =
+      let first : start + 0 ≡ start = omega arith in
+      let last : start + (end - start - 1) ≡ end - 1 = omega arith in
+      record {
+        begins = λ h. rw (part-byte 0 (omega arith), first) digit;
+        ends = λ h. rw (part-length, part-byte (end - start - 1) (omega arith), last) (no-separator (x .separator) _ other);
+      }
+
+-- where no pair of separators is counted, no two stand side by side
+none-double :
+    (x : Syntax) → isDigit (x .separator) (x .radix) ≡ false
+    → (l : List ℕ) → pairsOf (doubles x) l ≡ 0
+    → (i : ℕ) → i + 1 < length l → getD l i 0 ≡ x .separator → getD l (i + 1) 0 ≡ x .separator → ⊥
+none-double x apart [] none i h e f = omega arith
+none-double x apart (b ∷ []) none i h e f = omega arith
+none-double x apart (b ∷ n ∷ l) none zero h e f =
+    let digit : isDigit n (x .radix) ≡ false = rw f apart in
+    let counted : 1 + pairsOf (doubles x) (n ∷ l) ≡ 0 = rw (eq-eqb b (x .separator) e, digit, eq-eqb n (x .separator) f) at none in
+    omega arith
+none-double x apart (b ∷ n ∷ l) none (suc i) h e f =
+    none-double x apart (n ∷ l) (omega arith) i (omega arith) e (rw add-one (rw add-one at f))
+
+-- when a buffer is quick: where runs are not passed, or where it has none
+module _ (x : Syntax) (r : Reader) (s : List ℕ) (counts : (hasAnyFlag (x .flags) && isCounted r) ≡ true) (positive : 0 < x .separator)
+    (apart : isDigit (x .separator) (x .radix) ≡ false)
+  where
+    pub quick-by-flags : x .flags .consecutive ≡ false → Quick x r s
+    quick-by-flags single =
+        record {
+          counts = counts;
+          positive = positive;
+          apart = apart;
+          single = λ runs i h e f. false≢true (sym single ∙ runs);
+        }
+
+    pub quick-by-buffer : pairsOf (doubles x) s ≡ 0 → Quick x r s
+    quick-by-buffer none =
+        record { counts = counts; positive = positive; apart = apart; single = λ runs. none-double x apart s none }
+
+-- only a digit behind a byte is counted
+digit-or-none : (d s : Bool) → cond d true (cond s false false) ≡ d
+digit-or-none true s = refl
+digit-or-none false true = refl
+digit-or-none false false = refl
+
+-- the digits of a list are its first byte, if it is one, and those with a byte before them
+behind-digits : (x : Syntax) (b : ℕ) (l : List ℕ) → pairsOf (beforeDigits x) (b ∷ l) ≡ digitsIn (x .radix) l
+behind-digits x b [] = refl
+behind-digits x b (n ∷ l) = rw (digit-or-none (isDigit n (x .radix)) (eqb n (x .separator)), behind-digits x n l)
+
+first-and-behind :
+    (x : Syntax) (s : List ℕ) → 0 < length s
+    → cond (isDigit (getD s 0 0) (x .radix)) 1 0 + pairsOf (beforeDigits x) s ≡ digitsIn (x .radix) s
+first-and-behind x [] some = absurd (omega arith)
+first-and-behind x (b ∷ l) some = rw (behind-digits x b l)
+
+-- what a stretch adds: nothing where it is empty, else as it begins with a digit or not
+pub empty-stretch : (x : Syntax) (s : List ℕ) → length s ≡ 0 → noTotals ≡ ordinaryTotals x s
+empty-stretch x [] e = refl
+empty-stretch x (b ∷ s) e = absurd (omega arith)
+
+pub stretch-told :
+    (x : Syntax) (s : List ℕ) (passed behind digits : ℕ) (first : Bool)
+    → passed ≡ pairsOf (passing x) s → behind ≡ pairsOf (beforeDigits x) s
+    → 0 < length s → first ≡ isDigit (getD s 0 0) (x .radix) → digits ≡ cond first 1 0 + behind
+    → _≡_ {A = Totals} (record { taken = length s - passed; passed = passed; digits = digits }) (ordinaryTotals x s)
+stretch-told x s passed behind digits first passes counts some begins sum =
+    rw (passes, sum, counts, begins, first-and-behind x s some)
+
+-- nothing is counted in a fresh state
+pub fresh-count : (f : Format) (r : Reader) → 0 ≡ countOf (freshOf f) r
+unfolding countOf
+fresh-count f Integer = refl
+fresh-count f Fraction = refl
+fresh-count f Exponent = refl
+fresh-count f Special = refl
+
+-- the count of a reader to which one is given
+own-count : (st : State) (r : Reader) (n : ℕ) → countOf (withCount st r n) r ≡ countedOnes r n
+unfolding countOf withCount
+own-count st Integer n = refl
+own-count st Fraction n = refl
+own-count st Exponent n = refl
+own-count st Special n = refl
+
+-- a reader's own count is at most the count that it is told
+pub counted-at-most : (r : Reader) (n : ℕ) → countedOnes r n ≤ n
+counted-at-most Integer n = omega arith
+counted-at-most Fraction n = omega arith
+counted-at-most Exponent n = omega arith
+counted-at-most Special n = omega arith
+
+-- what a cell adds is what its run tells
+pub cell-told :
+    (m : Reading) (s : List ℕ) (f : Format) (r : Reader) (run : Run) (digits : ℕ)
+    → runOutcome (freshOf f) r run ≡ nextAllOf m s (freshOf f) r → digits ≡ countedOnes r (run .count)
+    → _≡_ {A = Totals} (record { taken = run .at - run .passed; passed = run .passed; digits = digits }) (cellTotals m f r s)
+cell-told m s f r run digits told own =
+    let whole : run .at - 0 ≡ run .at = omega arith in
+    let known : totalsOf r (runOutcome (freshOf f) r run) ≡ cellTotals m f r s = ap (totalsOf r) told in
+    rw own (rw (whole, own-count (movedTo (freshOf f) (run .at)) r (run .count)) at known)

@@ -1,0 +1,22 @@
+-- Counts over bytes and the byte behind each, by which a column of ordinary cells is told at once (specs/Column.antt). Assumes nothing.
+use Prim.Native.Nat.{ℕ, _+_}
+use mathlib.Core.Bool.{Bool, false, cond, _&&_, _||_}
+use mathlib.Core.List.{List, [], _∷_}
+use lib.Dec.{eqb}
+use Rattle.word.specs.Digit.{isDigit}
+use Rattle.reader.specs.declared.pairs.Pairs.{Pairs}
+
+-- a byte and the one behind it count: the first is the separator, or may be any, and the second is of a kind that counts
+abbrev pub hitsOf : Pairs → ℕ → ℕ → Bool
+hitsOf p b n =
+    (p .any || eqb b (p .separator))
+    && cond (isDigit n (p .radix)) (p .digits) (cond (eqb n (p .separator)) (p .separators) (p .others))
+
+abbrev pub hitsBefore : Pairs → ℕ → List ℕ → Bool
+hitsBefore p b [] = false
+hitsBefore p b (n ∷ rest) = hitsOf p b n
+
+-- how many of a list's bytes count so with the byte behind them
+abbrev pub pairsOf : Pairs → List ℕ → ℕ
+pairsOf p [] = 0
+pairsOf p (b ∷ rest) = cond (hitsBefore p b rest) 1 0 + pairsOf p rest
