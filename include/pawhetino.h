@@ -56,6 +56,14 @@ uint32_t pawhetino_next_all(
     size_t *cursor, size_t *integer, size_t *fraction, size_t *exponent,
     uint8_t *has_byte, uint8_t *byte, size_t *taken, size_t *passed);
 
+/* Takes every cell of a column to its end, each from a fresh state. The cells lie one after the other in s: the first begins at 0,
+ * every other where the one before it ends, and the k-th ends at ends[k]; an end before the last one or past len counts as that
+ * bound. *taken, *passed and *digits are the sums over all cells, *digits of the reader's count behind each. Returned is 0, or 12 to
+ * 14 where the reader's consecutive flag stands alone, or 19 for another reader: then the sums are 0. */
+uint32_t pawhetino_next_all_column(
+    const uint8_t *s, size_t len, const size_t *ends, size_t cells, uint64_t lo, uint64_t hi, uint8_t reader,
+    size_t *taken, size_t *passed, size_t *digits);
+
 /* Takes the byte, uncounted, where it is in a set of 256 bits, set0 the lowest 64. Where it is not, the passing stays. */
 uint32_t pawhetino_read_if(
     const uint8_t *s, size_t len, uint64_t lo, uint64_t hi, uint8_t reader,

@@ -1,5 +1,5 @@
-/* The library from C: the checks of four words, a cell read to its end, and zeros skipped before a block is taken, with the
- * answers that they must give. */
+/* The library from C: the checks of four words, a cell and a column of cells read to their ends, and zeros skipped before a block is
+ * taken, with the answers that they must give. */
 #include <stdio.h>
 
 #include "pawhetino.h"
@@ -50,8 +50,19 @@ static int skip_zeros_and_take_block(void) {
     return wrong;
 }
 
+/* Three cells of a column in one call: 14 digits, two separators passed. An end past the buffer counts as its length. */
+static int read_column(void) {
+    static const uint8_t column[] = "1_20412_00123456";
+    static const size_t ends[] = {5, 10, SIZE_MAX};
+    size_t taken, passed, digits;
+    uint32_t number = pawhetino_next_all_column(column, sizeof column - 1, ends, sizeof ends / sizeof *ends,
+                                                examples[0].lo, examples[0].hi, 0, &taken, &passed, &digits);
+    printf("a column of three cells: %zu digits, %zu separators passed\n", digits, passed);
+    return number != 0 || taken != 14 || passed != 2 || digits != 14;
+}
+
 int main(void) {
-    int wrong = read_cell() + skip_zeros_and_take_block();
+    int wrong = read_cell() + skip_zeros_and_take_block() + read_column();
     for (size_t i = 0; i < sizeof examples / sizeof *examples; i++) {
         const struct example *e = &examples[i];
         uint32_t full = pawhetino_format_error(e->lo, e->hi);

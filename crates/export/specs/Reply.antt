@@ -13,7 +13,7 @@ use Rattle.reader.specs.State.{readerNamed}
 use Rattle.reader.specs.Answer.{Outcome, CountOutcome}
 use Rattle.reader.specs.Plain.{PlainOutcome, plainPeekOf, plainNextOf}
 use Rattle.reader.specs.Reading.{readingOf}
-use Rattle.reader.specs.Calls.{peekOf, nextOf, nextAllOf, readIfOf, currentCountOf, refused}
+use Rattle.reader.specs.Calls.{peekOf, nextOf, readIfOf, currentCountOf, refused}
 use Rattle.export.specs.declared.reply.Reply.{Reply}
 use Rattle.export.specs.declared.reply.FullReply.{FullReply}
 use Rattle.export.specs.declared.reply.CountReply.{CountReply}
@@ -71,7 +71,6 @@ written old o =
 unfoldable pub callOf : Call → List ℕ → State → Reader → Outcome
 callOf call.Peek s st r = peekOf (readingOf (st .format) r) s st r
 callOf call.Next s st r = nextOf (readingOf (st .format) r) s st r
-callOf call.NextAll s st r = nextAllOf (readingOf (st .format) r) s st r
 callOf (call.ReadIf a b c d) s st r =
     readIfOf (readingOf (st .format) r) s st r (member (record { bits = a ∷ b ∷ c ∷ d ∷ [] }))
 callOf (call.ReadIfValueCased value) s st r = readIfOf (readingOf (st .format) r) s st r (λ b. eqb b value)

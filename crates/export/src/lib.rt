@@ -10,6 +10,7 @@ ghost use Rattle.reader.specs.Place.{isSeparator};
 ghost use Rattle.export.specs.declared.reply.Call.{Call};
 ghost use Rattle.export.specs.declared.reply.PlainCall.{PlainCall};
 ghost use Rattle.export.specs.Reply.{stateOf, calledBy, plainCalledBy, written, plainWritten, held, plainHeld, countedFor, countWritten};
+ghost use Rattle.export.specs.Cells.{takenAllBy, columnReadBy, columnWritten, columnHeld};
 ghost use Rattle.export.specs.Zeros.{skipWritten, skippedBy, skipHeld};
 ghost use Rattle.export.specs.Block.{blockWritten, partWritten, blockTakenBy, blockHeld, partHeld};
 use crate::reply::Call;
@@ -17,6 +18,7 @@ use crate::reply::PlainCall;
 use word::format_flags::Format;
 
 pub mod block;
+pub mod cells;
 pub mod numbers;
 pub mod reply;
 pub mod zeros;
@@ -180,10 +182,9 @@ pub extern "C" fn pawhetino_next_all(
     taken: &mut usize,
     passed: &mut usize,
 ) -> u32
-    ensures { λ r. ⌜ held r (now (cursor .exit)) (now (integer .exit)) (now (fraction .exit)) (now (exponent .exit)) (now (found .exit)) (now (byte .exit)) (now (taken .exit)) (now (passed .exit)) ≡ written (now (byte .entry)) (calledBy reader Call.NextAll (now (s .entry)) (stateOf lo hi (now (cursor .entry)) (now (integer .entry)) (now (fraction .entry)) (now (exponent .entry)))) ⌝ }
+    ensures { λ r. ⌜ held r (now (cursor .exit)) (now (integer .exit)) (now (fraction .exit)) (now (exponent .exit)) (now (found .exit)) (now (byte .exit)) (now (taken .exit)) (now (passed .exit)) ≡ written (now (byte .entry)) (takenAllBy reader (now (s .entry)) (stateOf lo hi (now (cursor .entry)) (now (integer .entry)) (now (fraction .entry)) (now (exponent .entry)))) ⌝ }
 {
-    reply::run(
-        Call::NextAll,
+    cells::run(
         s,
         lo,
         hi,
@@ -197,6 +198,28 @@ pub extern "C" fn pawhetino_next_all(
         taken,
         passed,
     )
+}
+
+// Takes every cell of a column to its end, each from a fresh state. The cells lie one after the other in the buffer, and end at `ends`;
+// an end before the last one or past the buffer counts as that bound. Written are the sums over all cells, 0 where it is refused.
+#[no_mangle]
+pub extern "C" fn pawhetino_next_all_column(
+    s: &[u8],
+    ends: &[usize],
+    lo: u64,
+    hi: u64,
+    reader: u8,
+    taken: &mut usize,
+    passed: &mut usize,
+    digits: &mut usize,
+) -> u32
+    ensures { λ r. ⌜ columnHeld r (now (taken .exit)) (now (passed .exit)) (now (digits .exit)) ≡ columnWritten (columnReadBy reader (record { lo = lo; hi = hi }) (now (s .entry)) (now (ends .entry))) ⌝ }
+{
+    let reply = cells::column(s, ends, lo, hi, reader);
+    *taken = reply.taken;
+    *passed = reply.passed;
+    *digits = reply.digits;
+    reply.number
 }
 
 // Takes the byte, uncounted, where it is in the set of 256 bits, set0 the lowest 64. Where it is not, the passing stays.

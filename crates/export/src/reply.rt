@@ -2,6 +2,7 @@
 // numbers that are written through the caller's pointers.
 ghost use mathlib.Core.Path.{_≡_};
 ghost use Rattle.reader.specs.Answer.{outcomeOf, readOutcomeOf, countOutcomeOf, seenNumber, seenByte, readNumber, readByte};
+ghost use Rattle.reader.specs.Calls.{refused};
 ghost use Rattle.reader.specs.Plain.{plainOutcomeOf, plainNumber, plainByte};
 ghost use Rattle.export.specs.Reply.{stateOf, plainWritten, written, callOf, calledBy, plainCallOf, plainCalledBy, countedFor, countWritten, plainHeld, held};
 use reader::iterator::Read;
@@ -26,7 +27,6 @@ use word::format_flags::Format;
 pub enum Call {
     Peek,
     Next,
-    NextAll,
     ReadIf(u64, u64, u64, u64),
     ReadIfValueCased(u8),
 }
@@ -180,7 +180,7 @@ fn plain_reply(seen: Seen, taken: usize, passed: usize, cursor: usize, old: u8) 
     }
 }
 
-fn reply_of(answer: Answer, old: u8) -> FullReply
+pub(crate) fn reply_of(answer: Answer, old: u8) -> FullReply
     ensures { λ r. ⌜ r ≡ written old (outcomeOf answer) ⌝ }
 {
     let told = answer.told;
@@ -209,6 +209,19 @@ fn unknown(cursor: usize, old: u8) -> Reply
     }
 }
 
+// The same with the counts.
+pub(crate) fn unknown_reader(state: State, old: u8) -> FullReply
+    ensures { λ r. ⌜ r ≡ written old (refused 19 state) ⌝ }
+{
+    let reply = unknown(state.cursor, old);
+    FullReply {
+        reply,
+        integer: state.integer.0,
+        fraction: state.fraction.0,
+        exponent: state.exponent.0,
+    }
+}
+
 // The answer to a call.
 fn answered(call: Call, s: &[u8], state: State, reader: Reader) -> Answer
     ensures { λ r. ⌜ outcomeOf r ≡ callOf call (now (s .entry)) state reader ⌝ }
@@ -216,7 +229,6 @@ fn answered(call: Call, s: &[u8], state: State, reader: Reader) -> Answer
     match call {
         Call::Peek => reader::skip::peek(s, state, reader),
         Call::Next => reader::skip::next(s, state, reader),
-        Call::NextAll => reader::skip::next_all(s, state, reader),
         Call::ReadIf(a, b, c, d) => {
             let set = ByteSet { bits: [a, b, c, d] };
             answer_of_read(reader::iterator::read_if(s, state, reader, set))
@@ -233,15 +245,7 @@ fn called(call: Call, s: &[u8], state: State, reader: u8, old: u8) -> FullReply
     let by = reader_named(reader);
     match by {
         Named::Known(x) => reply_of(answered(call, s, state, x), old),
-        Named::Unknown => {
-            let reply = unknown(state.cursor, old);
-            FullReply {
-                reply,
-                integer: state.integer.0,
-                fraction: state.fraction.0,
-                exponent: state.exponent.0,
-            }
-        }
+        Named::Unknown => unknown_reader(state, old),
     }
 }
 

@@ -17,12 +17,6 @@ enum-told-2 c = search needs
 next-requires : tie.Need-next-requires
 next-requires c κs = search needs
 
-enum-told-3 : tie.Need-enum-told-3
-enum-told-3 c = search needs
-
-next-all-requires : tie.Need-next-all-requires
-next-all-requires c κs = search needs
-
 enum-known-call : tie.Need-enum-known-call
 enum-known-call c = search needs
 
@@ -51,15 +45,11 @@ returns-2 c = rw (c .before .enum-told2 .given .1) (c .next .ensures)
 
 returns-3 : tie.Need-returns-3
 unfolding callOf
-returns-3 c = rw (c .before .enum-told3 .given .1) (c .next-all .ensures)
+returns-3 c = rw (c .before .before .before .call .given .1) (c .answer-of-read .ensures ∙ c .before .read-if .ensures)
 
 returns-4 : tie.Need-returns-4
 unfolding callOf
-returns-4 c = rw (c .before .before .before .call .given .1) (c .answer-of-read .ensures ∙ c .before .read-if .ensures)
-
-returns-5 : tie.Need-returns-5
-unfolding callOf
-returns-5 c = rw (c .before .before .before .call2 .given .1) (c .answer-of-read2 .ensures ∙ c .before .read-if-value-cased .ensures)
+returns-4 c = rw (c .before .before .before .call2 .given .1) (c .answer-of-read2 .ensures ∙ c .before .read-if-value-cased .ensures)
 
 pub answered-spec : {M : Type 1} → statement M
 answered-spec =
@@ -69,8 +59,6 @@ answered-spec =
     peek-requires
     enum-told-2
     next-requires
-    enum-told-3
-    next-all-requires
     enum-known-call
     read-if-requires
     answer-of-read-requires
@@ -80,5 +68,4 @@ answered-spec =
     returns
     returns-2
     returns-3
-    returns-4
-    returns-5)
+    returns-4)

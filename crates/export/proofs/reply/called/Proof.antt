@@ -1,5 +1,5 @@
 -- `export::reply::called` meets its contract. Assumes nothing.
-use Rattle.export.specs.Reply.{calledBy, written, plainWritten}
+use Rattle.export.specs.Reply.{calledBy}
 use borrow.Author.Needs.{needs}
 use Rattle.reader.proofs.Naming.{named, unnamed}
 use Rattle.export.proofs.reply.called.Statement.{statement}
@@ -20,8 +20,8 @@ reply-of-requires c κs = search needs
 enum-told : tie.Need-enum-told
 enum-told c = search needs
 
-unknown-requires : tie.Need-unknown-requires
-unknown-requires c κs = search needs
+unknown-reader-requires : tie.Need-unknown-reader-requires
+unknown-reader-requires c κs = search needs
 
 returns : tie.Need-returns
 unfolding calledBy
@@ -31,11 +31,11 @@ returns c =
     rw (e, ← c .before .answered .ensures) (c .reply-of .ensures)
 
 returns-2 : tie.Need-returns-2
-unfolding calledBy written plainWritten
+unfolding calledBy
 returns-2 c =
     let k = c .before in
     let e = unnamed _ _ (k .before .before .reader-named .ensures) (k .enum-told .given .1) in
-    rw (e, c .unknown .ensures)
+    rw (e, c .unknown-reader .ensures)
 
 pub called-spec : {M : Type 1} → statement M
 called-spec =
@@ -46,6 +46,6 @@ called-spec =
     answered-requires
     reply-of-requires
     enum-told
-    unknown-requires
+    unknown-reader-requires
     returns
     returns-2)
