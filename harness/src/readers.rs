@@ -4,6 +4,8 @@ pub mod answer;
 mod bench;
 mod blocks;
 pub mod call;
+mod column;
+mod columns;
 mod comparison;
 mod compiled;
 mod counts;
@@ -36,12 +38,13 @@ pub use record::write as record;
 use crate::group::Groups;
 
 /// The groups of reader calls, the longest first.
-pub const GROUPS: [Groups; 12] = [
+pub const GROUPS: [Groups; 13] = [
     |report, _| small::run(report),
     random::run,
     tally::run,
     |report, _| runs::run(report),
     lists::run,
+    columns::run,
     |report, _| examples::run(report),
     |report, _| written::run(report),
     |report, _| digits::run(report),

@@ -7,6 +7,7 @@ mod functions;
 use self::functions::*;
 use super::answer::{Answer, CountAnswer, Found, Part, UNTOUCHED, UNTOUCHED_NUMBER};
 use super::call::{ByteSet, Call, Case, State};
+use super::column::{Column, Sums};
 use crate::word::Word;
 
 /// Makes a call with what all calls are given: the case with its state, which
@@ -134,6 +135,33 @@ fn take_n_part<'a>(case: &Case<'a>, n: usize) -> Part<'a> {
         number,
         start,
         bytes: rest.and_then(|rest| rest.get(..length)),
+    }
+}
+
+/// Takes every cell of a column to its end, in one call.
+pub fn next_all_column(column: &Column) -> Sums {
+    let [mut taken, mut passed, mut digits] = [UNTOUCHED_NUMBER; 3];
+    // SAFETY: each pointer and length are those of one slice; the rest are
+    // numbers and places of our own.
+    let number = unsafe {
+        pawhetino_next_all_column(
+            column.buffer.as_ptr(),
+            column.buffer.len(),
+            column.ends.as_ptr(),
+            column.ends.len(),
+            column.word.lo(),
+            column.word.hi(),
+            column.reader,
+            &mut taken,
+            &mut passed,
+            &mut digits,
+        )
+    };
+    Sums {
+        number,
+        taken,
+        passed,
+        digits,
     }
 }
 

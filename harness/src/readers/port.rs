@@ -3,6 +3,7 @@
 
 use super::answer::{Answer, Found};
 use super::call::{Case, State, SPECIAL};
+use super::column::{Column, Sums};
 use super::sets::{C, NONE};
 use super::table::View;
 
@@ -14,11 +15,28 @@ struct Port<'a> {
 
 pub fn next_all<'a>(case: &Case<'a>) -> Answer<'a> {
     let mut port = Port::new(case);
-    let mut taken = 0;
-    while port.next().is_some() {
-        taken += 1;
-    }
+    let taken = port.take_all();
     port.answer(case, Found::byte(None), taken)
+}
+
+/// The word's fields are read once for the whole column.
+pub fn next_all_column(column: &Column) -> Sums {
+    let view = View::new(column.word, column.reader, &[]);
+    let mut sums = Sums::default();
+    for cell in column.cells() {
+        let mut port = Port {
+            view: view.over(cell),
+            cursor: 0,
+            count: 0,
+        };
+        let taken = port.take_all();
+        sums.taken += taken;
+        sums.passed += port.cursor - taken;
+        if column.reader != SPECIAL {
+            sums.digits += port.count;
+        }
+    }
+    sums
 }
 
 pub fn skip_zeros<'a>(case: &Case<'a>) -> Answer<'a> {
@@ -53,6 +71,14 @@ impl<'a> Port<'a> {
                 reader => case.state.counts[usize::from(reader)],
             },
         }
+    }
+
+    fn take_all(&mut self) -> usize {
+        let mut taken = 0;
+        while self.next().is_some() {
+            taken += 1;
+        }
+        taken
     }
 
     fn next(&mut self) -> Option<u8> {

@@ -6,6 +6,7 @@ use crate::oracle::char_is_digit_const;
 use crate::word::{Field, Word};
 
 /// A buffer as one reader sees it.
+#[derive(Clone, Copy)]
 pub struct View<'a> {
     buffer: &'a [u8],
     /// None where the word has none.
@@ -23,6 +24,11 @@ impl<'a> View<'a> {
             radix: word.field(Field::MantissaRadix).into(),
             set: word.reader_set(reader),
         }
+    }
+
+    /// The same reader's view of another buffer: the word is not read again.
+    pub fn over<'b>(&self, buffer: &'b [u8]) -> View<'b> {
+        View { buffer, ..*self }
     }
 
     /// The rule for a separator at a place, by how many digits the reader has

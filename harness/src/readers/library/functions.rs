@@ -82,6 +82,22 @@ declare! {
     pawhetino_plain_next();
 }
 
+declare! {
+    (
+        s: *const u8,
+        len: usize,
+        ends: *const usize,
+        cells: usize,
+        lo: u64,
+        hi: u64,
+        reader: u8,
+        taken: &mut usize,
+        passed: &mut usize,
+        digits: &mut usize,
+    )
+    pawhetino_next_all_column();
+}
+
 unsafe extern "C" {
     pub safe fn pawhetino_is_digit(lo: u64, hi: u64, c: u8) -> bool;
     pub safe fn pawhetino_is_digit_separator(lo: u64, hi: u64, c: u8) -> bool;
