@@ -4,36 +4,46 @@
 use std::hint::black_box;
 use std::process::ExitCode;
 
+use crate::chart::bars::{self, Bars};
 use crate::rng::Rng;
 use crate::timing::{agree, time_in_turn, ROUNDS};
 use crate::word::Word;
 use crate::words::{accepted_word, changed_word, uniform_word};
-use crate::{library, oracle, readers};
+use crate::{chart, library, oracle, readers};
 
 const WORDS: usize = 4096;
 
 /// Passes over the words in one round.
 const PASSES: u32 = 200;
 
-pub fn run(seed: u64) -> ExitCode {
-    let checks_agreed = time_checks(seed);
-    println!();
-    let readers_agreed = readers::bench(seed);
-    if checks_agreed && readers_agreed {
-        ExitCode::SUCCESS
-    } else {
-        eprintln!("harness: the answers differ, so the times say nothing");
-        ExitCode::FAILURE
-    }
+/// What a run has found out, besides what it printed.
+pub struct Findings {
+    /// Whether all sides gave the same answers.
+    pub agreed: bool,
+    /// The rows that are drawn.
+    pub bars: Vec<Bars>,
 }
 
-/// Whether both sides gave the same answers.
-fn time_checks(seed: u64) -> bool {
-    println!("Full check, ns per word: median of {ROUNDS} rounds (least to most).\n");
-    println!("| {WORDS} words | Rust | Rattle | Rattle / Rust |");
+/// Prints the tables, and draws some of their rows into a file where one is named.
+pub fn run(seed: u64, chart: Option<&str>) -> ExitCode {
+    let mut findings = Findings {
+        agreed: true,
+        bars: Vec::new(),
+    };
+    readers::bench(seed, &mut findings);
+    time_checks(seed, &mut findings);
+    if !findings.agreed {
+        eprintln!("harness: the answers differ, so the times say nothing");
+        return ExitCode::FAILURE;
+    }
+    chart::save(chart, || bars::draw(&findings.bars))
+}
+
+fn time_checks(seed: u64, findings: &mut Findings) {
+    println!("\n**Full check**, ns per word: median of {ROUNDS} rounds (least to most).\n");
+    println!("| {WORDS} words | Crate | Rattle | Rattle / crate |");
     println!("|---|---|---|---|");
     let mut rng = Rng::new(seed, "bench");
-    let mut agreed = true;
     for (name, draw) in word_sets() {
         let words: Vec<Word> = (0..WORDS).map(|_| draw(&mut rng)).collect();
         let timings = time_in_turn(
@@ -43,7 +53,7 @@ fn time_checks(seed: u64) -> bool {
             WORDS,
             PASSES,
         );
-        agreed &= agree(&timings);
+        findings.agreed &= agree(&timings);
         let [rust, rattle] = timings;
         println!(
             "| {name} | {} | {} | {:.2} |",
@@ -51,8 +61,12 @@ fn time_checks(seed: u64) -> bool {
             rattle.cell(),
             rattle.ratio(&rust)
         );
+        findings.bars.push(Bars {
+            label: format!("full check, {name} words"),
+            port: None,
+            rattle: rattle.to(&rust),
+        });
     }
-    agreed
 }
 
 type Draw = fn(&mut Rng) -> Word;

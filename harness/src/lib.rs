@@ -1,13 +1,16 @@
 //! Compares the Rattle library with the Rust crate that it was ported from.
 //!
 //! `test` runs every comparison, `record` writes the crate's answers for a
-//! program without Rust at hand, `bench` times the two side by side. `test-script`,
-//! `scripts` and `bench-script` do this for call scripts alone; `answer-script`
-//! prints the crate's answers to one, `run-script` is the program that is timed.
+//! program without Rust at hand, `bench` times the two side by side, `growth` shows
+//! how cost grows with a cell's length. `test-script`, `scripts` and `bench-script`
+//! do the first three for call scripts alone; `answer-script` prints the crate's
+//! answers to one, `run-script` is the program that is timed, and `growth-calls`
+//! makes the calls whose instructions are counted.
 
 #![deny(unsafe_code)]
 
 mod bench;
+mod chart;
 mod checks;
 mod digits;
 mod families;
@@ -18,6 +21,7 @@ mod oracle;
 mod readers;
 mod record;
 mod rng;
+mod scratch;
 mod script;
 mod timing;
 mod word;
@@ -28,7 +32,7 @@ use std::process::ExitCode;
 /// The seed of every command, unless `test` is given another.
 const SEED: u64 = 0x5041_5748_4554_494E;
 
-const USAGE: &str = "usage: harness test [seed] | bench | record
+const USAGE: &str = "usage: harness test [seed] | bench [--chart FILE] | growth [--chart FILE] | record
        harness test-script | bench-script | scripts | answer-script < SCRIPT | run-script LINES < SCRIPT";
 
 /// What the program does with its arguments.
@@ -39,7 +43,11 @@ pub fn main() -> ExitCode {
         ["test"] => test(SEED),
         ["test", seed] => parse_seed(seed).map_or_else(usage, test),
         ["test-script"] => run_groups(&[script::compare], SEED),
-        ["bench"] => bench::run(SEED),
+        ["bench"] => bench::run(SEED, None),
+        ["bench", "--chart", file] => bench::run(SEED, Some(file)),
+        ["growth"] => readers::growth(None),
+        ["growth", "--chart", file] => readers::growth(Some(file)),
+        [readers::GROWTH_CALLS] => readers::make_growth_calls(),
         ["record"] => record::run(SEED),
         ["scripts"] => script::record(SEED),
         ["bench-script"] => script::bench(SEED),

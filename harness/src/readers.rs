@@ -12,6 +12,7 @@ mod counts;
 mod digits;
 pub mod draw;
 mod examples;
+mod growth;
 mod history;
 mod library;
 mod lists;
@@ -33,6 +34,7 @@ pub mod words;
 mod written;
 
 pub use bench::run as bench;
+pub use growth::{make_calls as make_growth_calls, run as growth, COMMAND as GROWTH_CALLS};
 pub use record::write as record;
 
 use crate::group::Groups;

@@ -16,6 +16,14 @@ pub struct Timing {
     checksum: u64,
 }
 
+/// The median of some rounds, with the least and the most.
+#[derive(Clone, Copy)]
+pub struct Span {
+    pub least: f64,
+    pub median: f64,
+    pub most: f64,
+}
+
 /// Rounds of all ways in turn, each going first as often as the others, so that
 /// a slow moment of the machine falls on all. A round is so many passes that
 /// the clock's own steps vanish.
@@ -65,13 +73,30 @@ impl Timing {
         self.median() / other.median()
     }
 
-    fn median(&self) -> f64 {
+    /// This for a median of 1 of the other.
+    pub fn to(&self, other: &Self) -> Span {
+        let one = other.median();
+        Span {
+            least: self.least() / one,
+            median: self.median() / one,
+            most: self.most() / one,
+        }
+    }
+
+    pub fn median(&self) -> f64 {
         self.rounds[self.rounds.len() / 2]
     }
 
+    fn least(&self) -> f64 {
+        self.rounds[0]
+    }
+
+    fn most(&self) -> f64 {
+        self.rounds[self.rounds.len() - 1]
+    }
+
     pub fn cell(&self) -> String {
-        let least = self.rounds[0];
-        let most = self.rounds[self.rounds.len() - 1];
+        let (least, most) = (self.least(), self.most());
         format!("{:.2} ({least:.2} to {most:.2})", self.median())
     }
 }

@@ -13,6 +13,7 @@ struct Port<'a> {
     count: usize,
 }
 
+#[inline(always)]
 pub fn next_all<'a>(case: &Case<'a>) -> Answer<'a> {
     let mut port = Port::new(case);
     let taken = port.take_all();
@@ -39,6 +40,7 @@ pub fn next_all_column(column: &Column) -> Sums {
     sums
 }
 
+#[inline(always)]
 pub fn skip_zeros<'a>(case: &Case<'a>) -> Answer<'a> {
     let mut port = Port::new(case);
     let mut zeros = 0;
@@ -50,6 +52,7 @@ pub fn skip_zeros<'a>(case: &Case<'a>) -> Answer<'a> {
     port.answer(case, Found::Zeros(zeros), zeros)
 }
 
+#[inline(always)]
 pub fn take_n<'a>(case: &Case<'a>, n: usize) -> Answer<'a> {
     let mut port = Port::new(case);
     if port.view.set != NONE {
@@ -62,6 +65,7 @@ pub fn take_n<'a>(case: &Case<'a>, n: usize) -> Answer<'a> {
 }
 
 impl<'a> Port<'a> {
+    #[inline]
     fn new(case: &Case<'a>) -> Self {
         Self {
             view: View::new(case.word, case.reader, case.buffer),
@@ -102,6 +106,7 @@ impl<'a> Port<'a> {
         self.view.at(self.cursor)
     }
 
+    #[inline(always)]
     fn answer(&self, case: &Case, found: Found<'a>, taken: usize) -> Answer<'a> {
         let mut after = State {
             cursor: self.cursor,

@@ -13,6 +13,7 @@ use super::records::{Script, LONGEST_TEXT};
 use super::rust::WORD;
 use crate::readers::call::{COUNTED, FRACTION, INTEGER, READERS, SPECIAL};
 use crate::rng::Rng;
+use crate::scratch::Folder;
 use crate::timing::{time_in_turn, Timing, ROUNDS};
 
 const RECORDS: usize = 1_000_000;
@@ -38,11 +39,10 @@ fn time_all(seed: u64) -> io::Result<()> {
         return Err(io::Error::other(missing));
     }
     println!(
-        "Call script of {RECORDS} records, ns per record, from the start of a process to its end:\n\
-         median of {ROUNDS} rounds (least to most). Rust: the crate with the word compiled in, its\n\
-         lines made by `write!`, or by hand.\n"
+        "\n**Call script of {RECORDS} records**, ns per record, from the start of a process to its end:\n\
+         median of {ROUNDS} rounds (least to most).\n"
     );
-    println!("| Script | Rust, `write!` | Rust, by hand | Rattle | Rattle / `write!` | Rattle / by hand | Rattle, records a second |");
+    println!("| Script | Crate, `write!` | Crate, by hand | Rattle | Rattle / `write!` | Rattle / by hand | Rattle, records a second |");
     println!("|---|---|---|---|---|---|---|");
     let mut rng = Rng::new(seed, "bench scripts");
     time("all calls", &program, &all_calls(&mut rng))?;
@@ -51,7 +51,9 @@ fn time_all(seed: u64) -> io::Result<()> {
 
 /// One row, once all three have printed what the crate answers.
 fn time(name: &str, program: &Program, Script(input): &Script) -> io::Result<()> {
-    let file = Scratch::with(input)?;
+    let folder = Folder::new("pawhetino-script")?;
+    let file = folder.path().join("input");
+    fs::write(&file, input)?;
     let rust = env::current_exe()?;
     let mut commands = [
         by_rust(&rust, "formatted"),
@@ -60,14 +62,12 @@ fn time(name: &str, program: &Program, Script(input): &Script) -> io::Result<()>
     ];
     let expected = oracle::output(input).expect("a script of a compiled word");
     for command in &mut commands {
-        if printed(command, &file.0)? != expected {
+        if printed(command, &file)? != expected {
             let message = format!("{}: not what the crate answers", command[0].display());
             return Err(io::Error::other(message));
         }
     }
-    let [one, other, rattle] = commands
-        .each_ref()
-        .map(|command| || spent(command, &file.0));
+    let [one, other, rattle] = commands.each_ref().map(|command| || spent(command, &file));
     let timings = time_in_turn([&one, &other, &rattle], RECORDS, 1);
     print_row(name, &timings);
     Ok(())
@@ -141,22 +141,4 @@ fn opened() -> Script {
 fn filled(opened: Script, mut call: impl FnMut(Script) -> Script) -> Script {
     let left = RECORDS - LONGEST_TEXT - 1;
     (0..left).fold(opened, |script, _| call(script))
-}
-
-/// A file that goes when it is no longer needed.
-struct Scratch(PathBuf);
-
-impl Scratch {
-    fn with(bytes: &[u8]) -> io::Result<Self> {
-        let name = format!("pawhetino-script-{}", std::process::id());
-        let path = env::temp_dir().join(name);
-        fs::write(&path, bytes)?;
-        Ok(Self(path))
-    }
-}
-
-impl Drop for Scratch {
-    fn drop(&mut self) {
-        let _ = fs::remove_file(&self.0);
-    }
 }

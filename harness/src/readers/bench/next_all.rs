@@ -2,7 +2,8 @@
 
 use lexical_util_format::iterator::{Bytes, Iter};
 
-use super::{Column, Set, Table, Work};
+use super::sides::{Singly, Work};
+use super::{Rows, Set, Table, Unit};
 use crate::readers::answer::{Answer, Found};
 use crate::readers::call::{Call, Case, State};
 use crate::readers::sets::{I, IC, ILT, ILTC};
@@ -26,59 +27,90 @@ impl Work for NextAll {
         Answer::new(State::default(), Found::byte(None), taken, after)
     }
 
+    #[inline(always)]
     fn port<'a>(&self, case: &Case<'a>) -> Answer<'a> {
         port::next_all(case)
     }
 
+    #[inline(always)]
     fn library<'a>(&self, case: &Case<'a>) -> Answer<'a> {
         library::call(case, Call::NextAll)
     }
 }
 
-const ORDINARY_SETS: &[Set] = &[("I", I), ("ILT", ILT), ("ILTC", ILTC)];
+pub const ORDINARY_SETS: &[Set] = &[("I", I), ("ILT", ILT), ("IC", IC), ("ILTC", ILTC)];
 
-pub fn table() -> Table<NextAll> {
+pub fn table() -> Table<Singly<NextAll>> {
     Table {
-        title: "Take to the end, one call for each cell, ns per byte",
-        units: |cells| cells.iter().map(|cell| cell.len()).sum(),
-        columns: columns(),
+        title: "Take to the end, one call for each cell",
+        short: "singly",
+        unit: Unit::Byte,
+        rows: vec![
+            ordinary("`1_204`", &["1_204"], &[I]),
+            ordinary("`12_00`", &["12_00"], &[]),
+            ordinary("`123456`", &["123456"], &[ILT]),
+            Rows {
+                charted: &[I, ILT, ILTC],
+                ..mixed(Singly(NextAll))
+            },
+            Rows {
+                charted: &[IC, ILTC],
+                ..long(
+                    "300 separators, passed",
+                    &[("IC", IC), ("ILTC", ILTC)],
+                    b'2',
+                )
+            },
+            Rows {
+                charted: &[IC],
+                ..long("300 separators, not passed", &[("I", I), ("IC", IC)], b'x')
+            },
+            Rows {
+                kinds: vec![padded(4000, b'x')],
+                cells: 1,
+                passes: 1,
+                charted: &[IC],
+                ..long("4,000 separators, not passed", &[("IC", IC)], b'x')
+            },
+        ],
     }
 }
 
-fn columns() -> Vec<Column<NextAll>> {
-    let ordinary = |name, kinds: &[&str]| Column {
+fn ordinary(name: &'static str, kinds: &[&str], charted: &'static [u32]) -> Rows<Singly<NextAll>> {
+    Rows {
         name,
         kinds: kinds.iter().map(|&kind| kind.into()).collect(),
-        cells: 4096,
-        passes: 100,
+        charted,
+        ..mixed(Singly(NextAll))
+    }
+}
+
+/// The cells that are taken singly and as a column.
+pub fn mixed<S>(sides: S) -> Rows<S> {
+    Rows {
+        name: "7,000 of these, mixed",
+        kinds: ["1_204", "12_00", "123456"].map(Into::into).into(),
+        cells: 7000,
+        passes: 60,
         sets: ORDINARY_SETS,
-        work: NextAll,
-    };
-    vec![
-        ordinary("`1_204`", &["1_204"]),
-        ordinary("`12_00`", &["12_00"]),
-        ordinary("`123456`", &["123456"]),
-        ordinary("these three, mixed", &["1_204", "12_00", "123456"]),
-        Column {
-            name: "300 separators between digits",
-            kinds: vec![padded(300, b"2")],
-            cells: 64,
-            passes: 100,
-            sets: &[("ILTC", ILTC), ("IC", IC)],
-            work: NextAll,
-        },
-        Column {
-            name: "4,000 separators that may not be passed",
-            kinds: vec![padded(4000, b"x")],
-            cells: 1,
-            passes: 1,
-            sets: &[("IC", IC)],
-            work: NextAll,
-        },
-    ]
+        charted: &[],
+        sides,
+    }
+}
+
+fn long(name: &'static str, sets: &'static [Set], end: u8) -> Rows<Singly<NextAll>> {
+    Rows {
+        name,
+        kinds: vec![padded(300, end)],
+        cells: 64,
+        passes: 20,
+        sets,
+        charted: &[],
+        sides: Singly(NextAll),
+    }
 }
 
 /// A digit, so many separators, an end.
-fn padded(separators: usize, end: &[u8]) -> Vec<u8> {
-    [b"1", b"_".repeat(separators).as_slice(), end].concat()
+fn padded(separators: usize, end: u8) -> Vec<u8> {
+    [b"1", b"_".repeat(separators).as_slice(), &[end]].concat()
 }

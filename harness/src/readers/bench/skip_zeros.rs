@@ -2,7 +2,8 @@
 
 use lexical_util_format::iterator::{Bytes, DigitsIter, Iter};
 
-use super::{Column, Set, Table, Work};
+use super::sides::{Singly, Work};
+use super::{Rows, Set, Table, Unit};
 use crate::readers::answer::{Answer, Found};
 use crate::readers::call::{Call, Case, State};
 use crate::readers::sets::{I, ILT, ILTC, NONE};
@@ -23,10 +24,12 @@ impl Work for SkipZeros {
         Answer::new(State::default(), Found::Zeros(zeros), zeros, after)
     }
 
+    #[inline(always)]
     fn port<'a>(&self, case: &Case<'a>) -> Answer<'a> {
         port::skip_zeros(case)
     }
 
+    #[inline(always)]
     fn library<'a>(&self, case: &Case<'a>) -> Answer<'a> {
         library::call(case, Call::SkipZeros)
     }
@@ -37,44 +40,50 @@ const ORDINARY_SETS: &[Set] = &[("none", NONE), ("I", I), ("ILTC", ILTC)];
 /// Those that pass a separator between two zeros.
 const PASSING_SETS: &[Set] = &[("I", I), ("ILT", ILT), ("ILTC", ILTC)];
 
-pub fn table() -> Table<SkipZeros> {
+pub fn table() -> Table<Singly<SkipZeros>> {
+    let mixed = ["1_204", "0000123", "0_00_0123"];
     Table {
-        title: "Zero skip, one call for each cell, ns per call",
-        units: |cells| cells.len(),
-        columns: vec![
+        title: "Zero skip, one call for each cell",
+        short: "zero skip",
+        unit: Unit::Call,
+        rows: vec![
             ordinary("`1_204`", ORDINARY_SETS, &["1_204"]),
             ordinary("`0000123`", ORDINARY_SETS, &["0000123"]),
             ordinary("`0_00_0123`", PASSING_SETS, &["0_00_0123"]),
-            ordinary(
-                "these three, mixed",
-                PASSING_SETS,
-                &["1_204", "0000123", "0_00_0123"],
-            ),
-            long("300 zeros", ORDINARY_SETS, b"0"),
+            Rows {
+                charted: &[ILT],
+                ..ordinary("7,000 of these, mixed", PASSING_SETS, &mixed)
+            },
+            Rows {
+                charted: &[ILTC],
+                ..long("300 zeros", ORDINARY_SETS, b"0")
+            },
             long("300 zeros, a separator behind each", PASSING_SETS, b"0_"),
         ],
     }
 }
 
-fn ordinary(name: &'static str, sets: &'static [Set], kinds: &[&str]) -> Column<SkipZeros> {
-    Column {
+fn ordinary(name: &'static str, sets: &'static [Set], kinds: &[&str]) -> Rows<Singly<SkipZeros>> {
+    Rows {
         name,
         kinds: kinds.iter().map(|&kind| kind.into()).collect(),
-        cells: 4096,
-        passes: 100,
+        cells: 7000,
+        passes: 60,
         sets,
-        work: SkipZeros,
+        charted: &[],
+        sides: Singly(SkipZeros),
     }
 }
 
 /// A text 300 times over, then a digit that ends the zeros.
-fn long(name: &'static str, sets: &'static [Set], text: &[u8]) -> Column<SkipZeros> {
-    Column {
+fn long(name: &'static str, sets: &'static [Set], text: &[u8]) -> Rows<Singly<SkipZeros>> {
+    Rows {
         name,
         kinds: vec![[text.repeat(300).as_slice(), b"1"].concat()],
         cells: 64,
         passes: 100,
         sets,
-        work: SkipZeros,
+        charted: &[],
+        sides: Singly(SkipZeros),
     }
 }

@@ -3,7 +3,8 @@
 
 use lexical_util_format::iterator::{Bytes, Iter};
 
-use super::{Column, Set, Table, Work};
+use super::sides::{Singly, Work};
+use super::{Rows, Set, Table, Unit};
 use crate::readers::answer::{Answer, Found};
 use crate::readers::call::{Call, Case, State};
 use crate::readers::sets::NONE;
@@ -26,10 +27,12 @@ impl Work for TakeN {
         Answer::new(State::default(), Found::block(cell, part), taken, after)
     }
 
+    #[inline(always)]
     fn port<'a>(&self, case: &Case<'a>) -> Answer<'a> {
         port::take_n(case, self.0)
     }
 
+    #[inline(always)]
     fn library<'a>(&self, case: &Case<'a>) -> Answer<'a> {
         library::call(case, Call::TakeN(self.0))
     }
@@ -39,25 +42,30 @@ impl Work for TakeN {
 /// leaves nothing to be timed.
 const SETS: &[Set] = &[("none", NONE)];
 
-pub fn table() -> Table<TakeN> {
+pub fn table() -> Table<Singly<TakeN>> {
     Table {
-        title: "Block take, one block for each cell (two calls to the library), ns per block",
-        units: |cells| cells.len(),
-        columns: vec![
-            column("2 of `123456`", b"123456", 2),
-            column("8 of `123456`: all", b"123456", 8),
-            column("64 of 300 digits", &b"1".repeat(300), 64),
+        title: "Block take, one block for each cell (two calls to the library)",
+        short: "block",
+        unit: Unit::Call,
+        rows: vec![
+            rows("2 of `123456`", b"123456", 2),
+            Rows {
+                charted: &[NONE],
+                ..rows("8 of `123456`: all", b"123456", 8)
+            },
+            rows("64 of 300 digits", &b"1".repeat(300), 64),
         ],
     }
 }
 
-fn column(name: &'static str, kind: &[u8], n: usize) -> Column<TakeN> {
-    Column {
+fn rows(name: &'static str, kind: &[u8], n: usize) -> Rows<Singly<TakeN>> {
+    Rows {
         name,
         kinds: vec![kind.to_vec()],
         cells: 4096,
         passes: 100,
         sets: SETS,
-        work: TakeN(n),
+        charted: &[],
+        sides: Singly(TakeN(n)),
     }
 }
