@@ -62,7 +62,7 @@ fn time_checks(seed: u64, findings: &mut Findings) {
             rattle.ratio(&rust)
         );
         findings.bars.push(Bars {
-            label: format!("full check, {name} words"),
+            label: format!("full check: {name} words"),
             port: None,
             rattle: rattle.to(&rust),
         });
@@ -93,7 +93,6 @@ fn half_changed_word(rng: &mut Rng) -> Word {
 /// the check; never inlined, so that each side has one loop for all rounds.
 #[inline(never)]
 fn pass(words: &[Word], check: impl Fn(Word) -> u32) -> u64 {
-    black_box(words).iter().fold(0, |sum: u64, &word| {
-        sum.wrapping_mul(31).wrapping_add(u64::from(check(word)))
-    })
+    let numbers = black_box(words).iter().map(|&word| check(word));
+    numbers.map(u64::from).sum()
 }

@@ -29,6 +29,7 @@ pub mod sets;
 mod small;
 mod table;
 mod tally;
+mod values;
 mod walk;
 pub mod words;
 mod written;

@@ -15,7 +15,7 @@ pub struct Line {
 const HEIGHT: f64 = 560.0;
 const MARGIN: f64 = 16.0;
 const LEFT: f64 = 84.0;
-const TOP: f64 = 56.0;
+const TOP: f64 = 72.0;
 const BOTTOM: f64 = HEIGHT - 60.0;
 const PLOT: f64 = 460.0;
 
@@ -31,6 +31,8 @@ pub fn draw(places: &[f64], lines: &[Line]) -> String {
         [MARGIN, 28.0],
         "Time of a take to the end, by the length of the cell",
     );
+    let legend = "full lines: Rattle; broken lines: the crate, word compiled in";
+    picture.text([MARGIN, 50.0], Anchor::Start, legend);
     let across = Scale::logarithmic([places[0], places[places.len() - 1]], [LEFT, right]);
     let values = || lines.iter().flat_map(|line| line.values.iter().copied());
     let least = values().fold(f64::INFINITY, f64::min);

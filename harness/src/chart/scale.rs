@@ -16,8 +16,13 @@ impl Scale {
         let least = numbers.clone().fold(1.0, f64::min);
         let most = numbers.fold(1.0, f64::max);
         let logarithmic = most / least > 10.0;
+        let tick_below = || logarithmic_ticks().filter(|&tick| tick <= least).last();
         Self {
-            least: if logarithmic { least * 0.9 } else { 0.0 },
+            least: if logarithmic {
+                tick_below().unwrap_or(least)
+            } else {
+                0.0
+            },
             most: most * 1.05,
             from,
             to,
@@ -51,13 +56,10 @@ impl Scale {
         decades
     }
 
-    /// 1, 2 and 5 of each decade where it is logarithmic, else six at most.
+    /// Where it is not logarithmic, seven at most.
     pub fn ticks(&self) -> Vec<f64> {
-        let candidates: Vec<f64> = if self.logarithmic {
-            let decades = -3..=9;
-            decades
-                .flat_map(|decade| [1.0, 2.0, 5.0].map(|digit| digit * 10_f64.powi(decade)))
-                .collect()
+        let mut ticks: Vec<f64> = if self.logarithmic {
+            logarithmic_ticks().collect()
         } else {
             let steps = [0.25, 0.5, 1.0, 2.0];
             let step = steps.into_iter().find(|step| self.most / step <= 6.0);
@@ -65,8 +67,12 @@ impl Scale {
                 .map(|k| f64::from(k) * step.unwrap_or(2.0))
                 .collect()
         };
-        let mut ticks = candidates;
         ticks.retain(|&tick| tick >= self.least && tick <= self.most);
         ticks
     }
+}
+
+/// 1, 2 and 5 of each decade, from least to most.
+fn logarithmic_ticks() -> impl Iterator<Item = f64> {
+    (-3..=9).flat_map(|decade| [1.0, 2.0, 5.0].map(|digit| digit * 10_f64.powi(decade)))
 }

@@ -55,6 +55,7 @@ enum Unit {
 pub fn run(seed: u64, findings: &mut Findings) {
     next_all::table().time(seed, findings);
     column::table().time(seed, findings);
+    next_all::table_of_runs().time(seed, findings);
     skip_zeros::table().time(seed, findings);
     take_n::table().time(seed, findings);
 }
@@ -62,7 +63,7 @@ pub fn run(seed: u64, findings: &mut Findings) {
 impl<S: Sides> Table<S> {
     fn time(&self, seed: u64, findings: &mut Findings) {
         let (unit, more, rule) = match self.unit {
-            Unit::Byte => ("byte", " ns per cell |", "---|"),
+            Unit::Byte => ("byte", " ns per cell: crate, port, Rattle |", "---|"),
             Unit::Call => ("call", "", ""),
         };
         println!(
@@ -78,7 +79,7 @@ impl<S: Sides> Table<S> {
         }
     }
 
-    /// Rows of the same name have the same cells, in every table.
+    /// Rows of the same name and kinds have the same cells, in every table.
     fn time_rows(&self, rows: &Rows<S>, seed: u64, findings: &mut Findings) {
         let drawn = cells::draw(&mut Rng::new(seed, rows.name), &rows.kinds, rows.cells);
         let buffer = drawn.concat();
@@ -94,12 +95,18 @@ impl<S: Sides> Table<S> {
             if rows.charted.contains(&set) {
                 let [rust, port, rattle] = &timings;
                 findings.bars.push(Bars {
-                    label: format!("{}, {flags}, {}", rows.name.replace('`', ""), self.short),
+                    label: self.label(rows.name, flags),
                     port: Some(port.to(rust)),
                     rattle: rattle.to(rust),
                 });
             }
         }
+    }
+
+    fn label(&self, name: &str, flags: &str) -> String {
+        let name = name.replace('`', "");
+        let flags = if flags == "none" { "no flags" } else { flags };
+        format!("{}: {name}, {flags}", self.short)
     }
 
     fn fields(&self, timings: &[Timing; 3], cells: &Cells) -> String {
@@ -113,8 +120,17 @@ impl<S: Sides> Table<S> {
         let length = cells.bytes() as f64 / cells.parts.len() as f64;
         let per_cell = timings
             .each_ref()
-            .map(|timing| format!("{:.1}", timing.median() * length));
+            .map(|timing| short(timing.median() * length));
         format!("{fields} | {}", per_cell.join(", "))
+    }
+}
+
+/// A time with no more places than tell something.
+fn short(time: f64) -> String {
+    if time < 1000.0 {
+        format!("{time:.1}")
+    } else {
+        format!("{time:.0}")
     }
 }
 

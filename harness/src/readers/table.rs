@@ -2,7 +2,7 @@
 //! may pass a separator.
 
 use super::sets::*;
-use crate::oracle::char_is_digit_const;
+use super::values::is_digit;
 use crate::word::{Field, Word};
 
 /// A buffer as one reader sees it.
@@ -11,7 +11,7 @@ pub struct View<'a> {
     buffer: &'a [u8],
     /// None where the word has none.
     separator: Option<u8>,
-    radix: u32,
+    radix: u8,
     pub set: u32,
 }
 
@@ -21,7 +21,7 @@ impl<'a> View<'a> {
         Self {
             buffer,
             separator: (separator != 0).then_some(separator),
-            radix: word.field(Field::MantissaRadix).into(),
+            radix: word.field(Field::MantissaRadix),
             set: word.reader_set(reader),
         }
     }
@@ -119,7 +119,7 @@ impl<'a> View<'a> {
     }
 
     pub fn is_digit(&self, byte: Option<u8>) -> bool {
-        byte.is_some_and(|byte| char_is_digit_const(byte, self.radix))
+        byte.is_some_and(|byte| is_digit(byte, self.radix))
     }
 
     /// Neither digit nor separator, also where there is no byte.

@@ -3,12 +3,12 @@
 use std::hint::black_box;
 
 use super::cells::Cells;
-use super::next_all::{NextAll, ORDINARY_SETS};
+use super::next_all::NextAll;
 use super::sides::{checksum, Sides, Work};
 use super::{next_all, Rows, Table, Unit};
 use crate::readers::call::INTEGER;
 use crate::readers::column::{Column, Sums};
-use crate::readers::sets::{I, ILT, ILTC};
+use crate::readers::sets::{I, IC, ILT, ILTC};
 use crate::readers::words::DECIMAL;
 use crate::readers::{library, port};
 use crate::word::Word;
@@ -46,8 +46,7 @@ pub fn table() -> Table<InOneCall> {
         short: "in one call",
         unit: Unit::Byte,
         rows: vec![Rows {
-            sets: ORDINARY_SETS,
-            charted: &[I, ILT, ILTC],
+            charted: &[I, ILT, IC, ILTC],
             ..next_all::mixed(InOneCall)
         }],
     }

@@ -40,19 +40,57 @@ impl Work for NextAll {
 
 pub const ORDINARY_SETS: &[Set] = &[("I", I), ("ILT", ILT), ("IC", IC), ("ILTC", ILTC)];
 
+/// Ordinary cells.
 pub fn table() -> Table<Singly<NextAll>> {
     Table {
         title: "Take to the end, one call for each cell",
         short: "singly",
         unit: Unit::Byte,
         rows: vec![
-            ordinary("`1_204`", &["1_204"], &[I]),
-            ordinary("`12_00`", &["12_00"], &[]),
-            ordinary("`123456`", &["123456"], &[ILT]),
+            ordinary("`1_204`", "1_204", &[ILT]),
+            ordinary("`12_00`", "12_00", &[]),
+            ordinary("`123456`", "123456", &[ILT]),
             Rows {
                 charted: &[I, ILT, ILTC],
                 ..mixed(Singly(NextAll))
             },
+        ],
+    }
+}
+
+fn ordinary(
+    name: &'static str,
+    kind: &'static str,
+    charted: &'static [u32],
+) -> Rows<Singly<NextAll>> {
+    Rows {
+        name,
+        kinds: vec![kind.into()],
+        charted,
+        ..mixed(Singly(NextAll))
+    }
+}
+
+/// The cells that are taken singly and as a column.
+pub fn mixed<S>(sides: S) -> Rows<S> {
+    Rows {
+        name: "7,000 cells, mixed",
+        kinds: ["1_204", "12_00", "123456"].map(Into::into).into(),
+        cells: 7000,
+        passes: 100,
+        sets: ORDINARY_SETS,
+        charted: &[],
+        sides,
+    }
+}
+
+/// Cells that are mostly separators.
+pub fn table_of_runs() -> Table<Singly<NextAll>> {
+    Table {
+        title: "Take to the end, a run of separators in each cell",
+        short: "run",
+        unit: Unit::Byte,
+        rows: vec![
             Rows {
                 charted: &[IC, ILTC],
                 ..long(
@@ -62,7 +100,7 @@ pub fn table() -> Table<Singly<NextAll>> {
                 )
             },
             Rows {
-                charted: &[IC],
+                charted: &[I],
                 ..long("300 separators, not passed", &[("I", I), ("IC", IC)], b'x')
             },
             Rows {
@@ -73,28 +111,6 @@ pub fn table() -> Table<Singly<NextAll>> {
                 ..long("4,000 separators, not passed", &[("IC", IC)], b'x')
             },
         ],
-    }
-}
-
-fn ordinary(name: &'static str, kinds: &[&str], charted: &'static [u32]) -> Rows<Singly<NextAll>> {
-    Rows {
-        name,
-        kinds: kinds.iter().map(|&kind| kind.into()).collect(),
-        charted,
-        ..mixed(Singly(NextAll))
-    }
-}
-
-/// The cells that are taken singly and as a column.
-pub fn mixed<S>(sides: S) -> Rows<S> {
-    Rows {
-        name: "7,000 of these, mixed",
-        kinds: ["1_204", "12_00", "123456"].map(Into::into).into(),
-        cells: 7000,
-        passes: 60,
-        sets: ORDINARY_SETS,
-        charted: &[],
-        sides,
     }
 }
 

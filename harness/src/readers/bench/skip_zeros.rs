@@ -52,7 +52,7 @@ pub fn table() -> Table<Singly<SkipZeros>> {
             ordinary("`0_00_0123`", PASSING_SETS, &["0_00_0123"]),
             Rows {
                 charted: &[ILT],
-                ..ordinary("7,000 of these, mixed", PASSING_SETS, &mixed)
+                ..ordinary("7,000 cells, mixed", PASSING_SETS, &mixed)
             },
             Rows {
                 charted: &[ILTC],

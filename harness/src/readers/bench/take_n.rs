@@ -51,7 +51,7 @@ pub fn table() -> Table<Singly<TakeN>> {
             rows("2 of `123456`", b"123456", 2),
             Rows {
                 charted: &[NONE],
-                ..rows("8 of `123456`: all", b"123456", 8)
+                ..rows("8 of `123456`", b"123456", 8)
             },
             rows("64 of 300 digits", &b"1".repeat(300), 64),
         ],

@@ -62,8 +62,9 @@ const PASSES_ONE: &str = "passes one";
 const PASSES_THE_RUN: &str = "passes the run";
 const TAKES_EACH: &str = "takes each";
 
-/// To know that it may not pass, it goes through the run at every take.
-const SCANS: &str = "takes each, scans the run";
+/// Whether a separator may be passed depends on the byte beyond the run, so that
+/// a reader which looks for it at every take goes through the run every time.
+const LOOKS_BEYOND: &str = "takes each, by the byte beyond the run";
 
 pub const ROWS: [Row; 15] = [
     Row {
@@ -87,16 +88,16 @@ pub const ROWS: [Row; 15] = [
     },
     Row {
         colour: Some("#c0392b"),
-        ..row(BEFORE_LETTER, SCANS, named!(IC ILC))
+        ..row(BEFORE_LETTER, LOOKS_BEYOND, named!(IC ILC))
     },
     row(BEFORE_DIGIT, TAKES_EACH, named!(L T LT LC)),
     row(BEFORE_DIGIT, PASSES_ONE, named!(I IL IT ILT)),
     row(BEFORE_DIGIT, PASSES_THE_RUN, named!(IC ILC ITC ILTC)),
-    row(BEFORE_DIGIT, SCANS, named!(TC LTC)),
+    row(BEFORE_DIGIT, LOOKS_BEYOND, named!(TC LTC)),
     row(AT_START, TAKES_EACH, named!(I L T IT LT ILT)),
     row(AT_START, PASSES_ONE, named!(IL)),
     row(AT_START, PASSES_THE_RUN, named!(LC ILC LTC ILTC)),
-    row(AT_START, SCANS, named!(IC TC ITC)),
+    row(AT_START, LOOKS_BEYOND, named!(IC TC ITC)),
 ];
 
 impl Row {
