@@ -13,7 +13,7 @@ pub struct Bars {
 
 /// Told apart by light and dark as well.
 const PORT: &str = "#f0a840";
-const RATTLE: &str = "#1f5fa8";
+const RATTLE: &str = "#5b93d0";
 
 const WIDTH: f64 = 960.0;
 const MARGIN: f64 = 16.0;

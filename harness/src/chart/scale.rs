@@ -16,13 +16,8 @@ impl Scale {
         let least = numbers.clone().fold(1.0, f64::min);
         let most = numbers.fold(1.0, f64::max);
         let logarithmic = most / least > 10.0;
-        let tick_below = || logarithmic_ticks().filter(|&tick| tick <= least).last();
         Self {
-            least: if logarithmic {
-                tick_below().unwrap_or(least)
-            } else {
-                0.0
-            },
+            least: if logarithmic { least * 0.95 } else { 0.0 },
             most: most * 1.05,
             from,
             to,
@@ -56,10 +51,13 @@ impl Scale {
         decades
     }
 
-    /// Where it is not logarithmic, seven at most.
+    /// 1, 2 and 5 of each decade where it is logarithmic, else seven at most.
     pub fn ticks(&self) -> Vec<f64> {
         let mut ticks: Vec<f64> = if self.logarithmic {
-            logarithmic_ticks().collect()
+            let decades = -3..=9;
+            decades
+                .flat_map(|decade| [1.0, 2.0, 5.0].map(|digit| digit * 10_f64.powi(decade)))
+                .collect()
         } else {
             let steps = [0.25, 0.5, 1.0, 2.0];
             let step = steps.into_iter().find(|step| self.most / step <= 6.0);
@@ -70,9 +68,4 @@ impl Scale {
         ticks.retain(|&tick| tick >= self.least && tick <= self.most);
         ticks
     }
-}
-
-/// 1, 2 and 5 of each decade, from least to most.
-fn logarithmic_ticks() -> impl Iterator<Item = f64> {
-    (-3..=9).flat_map(|decade| [1.0, 2.0, 5.0].map(|digit| digit * 10_f64.powi(decade)))
 }
