@@ -8,8 +8,8 @@ pub const ROUNDS: usize = 15;
 /// One way: does the work once, and answers a checksum over all its answers.
 pub type Pass<'a> = &'a dyn Fn() -> u64;
 
-/// Nanoseconds per unit of the work in each round, from least to most, and a
-/// sum of the checksums, which shows whether all ways gave the same answers.
+/// Nanoseconds per unit of the work in each round, and a sum of the checksums,
+/// which shows whether all ways gave the same answers.
 #[derive(Default)]
 pub struct Timing {
     rounds: Vec<f64>,
@@ -22,6 +22,18 @@ pub struct Span {
     pub least: f64,
     pub median: f64,
     pub most: f64,
+}
+
+impl Span {
+    fn of(rounds: impl Iterator<Item = f64>) -> Self {
+        let mut rounds: Vec<f64> = rounds.collect();
+        rounds.sort_by(f64::total_cmp);
+        Self {
+            least: rounds[0],
+            median: rounds[rounds.len() / 2],
+            most: rounds[rounds.len() - 1],
+        }
+    }
 }
 
 /// Rounds of all ways in turn, each going first as often as the others, so that
@@ -60,7 +72,6 @@ impl Timing {
         let elapsed = start.elapsed().as_nanos() as f64;
         self.rounds
             .push(elapsed / (units as f64 * f64::from(passes)));
-        self.rounds.sort_by(f64::total_cmp);
     }
 
     /// Units of the work in a second.
@@ -68,35 +79,31 @@ impl Timing {
         1e9 / self.median()
     }
 
-    /// How many times as long this took.
-    pub fn ratio(&self, other: &Self) -> f64 {
-        self.median() / other.median()
+    /// How many times as long this took. Rounds of the same number are compared,
+    /// which lie side by side, so that a slow time of the machine falls on both.
+    pub fn to(&self, other: &Self) -> Span {
+        let rounds = self.rounds.iter().zip(&other.rounds);
+        Span::of(rounds.map(|(own, others)| own / others))
     }
 
-    /// This for a median of 1 of the other.
-    pub fn to(&self, other: &Self) -> Span {
-        let one = other.median();
-        Span {
-            least: self.least() / one,
-            median: self.median() / one,
-            most: self.most() / one,
-        }
+    pub fn ratio(&self, other: &Self) -> f64 {
+        self.to(other).median
     }
 
     pub fn median(&self) -> f64 {
-        self.rounds[self.rounds.len() / 2]
-    }
-
-    fn least(&self) -> f64 {
-        self.rounds[0]
-    }
-
-    fn most(&self) -> f64 {
-        self.rounds[self.rounds.len() - 1]
+        self.span().median
     }
 
     pub fn cell(&self) -> String {
-        let (least, most) = (self.least(), self.most());
-        format!("{:.2} ({least:.2} to {most:.2})", self.median())
+        let Span {
+            least,
+            median,
+            most,
+        } = self.span();
+        format!("{median:.2} ({least:.2} to {most:.2})")
+    }
+
+    fn span(&self) -> Span {
+        Span::of(self.rounds.iter().copied())
     }
 }

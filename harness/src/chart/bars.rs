@@ -4,7 +4,7 @@ use super::scale::Scale;
 use super::svg::{Anchor, Picture, CHARACTER, INK, PALE};
 use crate::timing::{Span, ROUNDS};
 
-/// The bars of one row of a table, both with the crate's median for 1.
+/// The bars of one row of a table: how many times as long as the crate.
 pub struct Bars {
     pub label: String,
     pub port: Option<Span>,
