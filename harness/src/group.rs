@@ -23,22 +23,24 @@ impl Group {
         }
     }
 
-    /// Compares two answers to the same input, each with the name of its giver.
+    /// Compares two answers to the same input, each with the name of its giver,
+    /// and tells whether they are equal.
     pub fn agree<T: PartialEq + Display>(
         &mut self,
         input: &dyn Display,
         (one_name, one): (&str, T),
         (other_name, other): (&str, T),
-    ) {
+    ) -> bool {
         self.compared += 1;
         if one == other {
-            return;
+            return true;
         }
         self.different += 1;
         if self.shown.len() < SHOWN {
             let answers = format!("{one_name} {one}, {other_name} {other}");
             self.shown.push(format!("{input}: {answers}"));
         }
+        false
     }
 }
 

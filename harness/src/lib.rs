@@ -1,11 +1,12 @@
 //! Compares the Rattle library with the Rust crate that it was ported from.
 //!
-//! `test` runs every comparison, `record` writes the crate's answers for a
-//! program without Rust at hand, `bench` times the two side by side, `growth` shows
-//! how cost grows with a cell's length. `test-script`, `scripts` and `bench-script`
-//! do the first three for call scripts alone; `answer-script` prints the crate's
-//! answers to one, `run-script` is the program that is timed, and `growth-calls`
-//! makes the calls whose instructions are counted.
+//! `test` runs every comparison, `compare` those of the readers for minutes with
+//! far more calls, `test-compare` only the tests of the comparison itself. `record`
+//! writes the crate's answers for a program without Rust at hand, `bench` times the
+//! two side by side, `growth` shows how cost grows with a cell's length.
+//! `test-script`, `scripts` and `bench-script` do this for call scripts alone;
+//! `answer-script` prints the crate's answers to one, `run-script` is the program
+//! that is timed, and `growth-calls` makes the calls whose instructions are counted.
 
 #![deny(unsafe_code)]
 
@@ -29,11 +30,11 @@ mod words;
 
 use std::process::ExitCode;
 
-/// The seed of every command, unless `test` is given another.
+/// The seed of every command, unless `test` or `compare` is given another.
 const SEED: u64 = 0x5041_5748_4554_494E;
 
-const USAGE: &str = "usage: harness test [seed] | bench [--chart FILE] | growth [--chart FILE] | record
-       harness test-script | bench-script | scripts | answer-script < SCRIPT | run-script LINES < SCRIPT";
+const USAGE: &str = "usage: harness test [seed] | compare [seed] | bench [--chart FILE] | growth [--chart FILE] | record
+       harness test-compare SEED | test-script | bench-script | scripts | answer-script < SCRIPT | run-script LINES < SCRIPT";
 
 /// What the program does with its arguments.
 pub fn main() -> ExitCode {
@@ -42,6 +43,13 @@ pub fn main() -> ExitCode {
     match arguments.as_slice() {
         ["test"] => test(SEED),
         ["test", seed] => parse_seed(seed).map_or_else(usage, test),
+        ["compare"] => run_groups(&readers::LONG_GROUPS, SEED),
+        ["compare", seed] => {
+            parse_seed(seed).map_or_else(usage, |seed| run_groups(&readers::LONG_GROUPS, seed))
+        }
+        ["test-compare", seed] => parse_seed(seed).map_or_else(usage, |seed| {
+            run_groups(&[readers::TEST_OF_COMPARISON], seed)
+        }),
         ["test-script"] => run_groups(&[script::compare], SEED),
         ["bench"] => bench::run(SEED, None),
         ["bench", "--chart", file] => bench::run(SEED, Some(file)),
@@ -64,7 +72,12 @@ fn test(seed: u64) -> ExitCode {
         checks::run,
     ];
     run_groups(
-        &[&words, readers::GROUPS.as_slice(), &[script::compare]].concat(),
+        &[
+            &words,
+            readers::GROUPS.as_slice(),
+            &[script::assemble, script::compare],
+        ]
+        .concat(),
         seed,
     )
 }

@@ -1,6 +1,7 @@
 //! The call script: the program that runs one, as a process, beside the crate.
 
 mod answer;
+mod assembled;
 mod bench;
 mod cases;
 mod compare;
@@ -16,9 +17,13 @@ mod record;
 mod records;
 mod rust;
 mod seen;
+pub mod statements;
 
 pub use answer::run as answer;
+pub use assembled::run as assemble;
 pub use bench::run as bench;
 pub use compare::run as compare;
+pub use oracle::line;
 pub use record::run as record;
+pub use records::has_record;
 pub use rust::run as run_in_rust;

@@ -16,7 +16,7 @@ pub const READERS: [u8; 4] = [INTEGER, FRACTION, EXPONENT, SPECIAL];
 
 /// What a call starts from, and what it leaves for the next one. The default
 /// is the fresh state.
-#[derive(Clone, Copy, PartialEq, Eq, Default)]
+#[derive(Clone, Copy, PartialEq, Eq, Hash, Default)]
 pub struct State {
     pub cursor: usize,
     pub counts: [usize; 3],

@@ -14,8 +14,8 @@ const LONGEST: usize = 60;
 
 const MOST_CELLS: u64 = 12;
 
-/// For each reader of each word.
-const COLUMNS: u32 = 1_500;
+/// In the gate, for each reader of each word.
+pub const COLUMNS: u32 = 1_500;
 
 struct Comparison {
     sums: Group,
@@ -23,7 +23,8 @@ struct Comparison {
     port: Group,
 }
 
-pub fn run(report: &mut Report, seed: u64) {
+/// So many columns for each reader of each word.
+pub fn run(report: &mut Report, seed: u64, columns: u32) {
     let mut comparison = Comparison {
         sums: Group::new("columns, every sum"),
         refusals: Group::new("columns, refusals 12 to 14 and 19"),
@@ -32,7 +33,7 @@ pub fn run(report: &mut Report, seed: u64) {
     let mut rng = Rng::new(seed, "columns");
     for &rust in compiled() {
         for reader in READERS {
-            for _ in 0..COLUMNS {
+            for _ in 0..columns {
                 comparison.draw(&mut rng, rust, reader);
             }
             comparison.compare_without_cells(rust, reader);

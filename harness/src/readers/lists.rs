@@ -2,9 +2,11 @@
 //! that it returned, and the crate has one `Bytes` for the whole list.
 
 use super::call::{Case, Step, INTEGER};
+use super::comparison::Asked;
 use super::compiled::Readers;
 use super::outcomes::Outcomes;
 use super::rules::Rules;
+use super::smallest::{self, Input};
 use super::words::compiled;
 use super::{draw, library};
 use crate::group::{Group, Report};
@@ -16,45 +18,70 @@ pub const CALLS: usize = 30;
 /// The longest buffer, long enough that many lists end before it does.
 pub const LONGEST: usize = 60;
 
-/// Lists for each word.
-const LISTS: u32 = 1_500;
+/// How much is drawn.
+pub struct Amount {
+    /// Names the groups, and the random numbers that are drawn.
+    pub what: &'static str,
+    /// For each word.
+    pub lists: u32,
+}
 
-pub fn run(report: &mut Report, seed: u64) {
-    let mut comparison = Comparison {
-        answers: Group::new("readers, whole lists, every answer"),
-        rules: Rules::new("whole lists"),
-        outcomes: Outcomes::new("whole lists"),
-    };
-    let mut rng = Rng::new(seed, "lists");
-    for &rust in compiled() {
-        for _ in 0..LISTS {
-            let buffer = draw::buffer(&mut rng, rust.word(), LONGEST);
-            let list = draw::list(&mut rng, rust.word(), &buffer, CALLS);
-            comparison.compare(rust, &buffer, &list);
-        }
-    }
+/// What the gate draws.
+pub const GATE: Amount = Amount {
+    what: "whole lists",
+    lists: 1_500,
+};
+
+pub fn run(report: &mut Report, seed: u64, amount: &Amount) {
+    let mut comparison = Comparison::new(amount.what, library::call);
+    comparison.draw(&mut Rng::new(seed, amount.what), amount.lists);
     comparison.close(report);
 }
 
-struct Comparison {
+pub struct Comparison {
+    asked: Asked,
     answers: Group,
     rules: Rules,
     outcomes: Outcomes,
+    /// The first list on which the two part.
+    pub first: Option<Input>,
 }
 
 impl Comparison {
-    fn compare(&mut self, rust: &dyn Readers, buffer: &[u8], list: &[Step]) {
+    pub fn new(what: &str, asked: Asked) -> Self {
+        Self {
+            asked,
+            answers: Group::new(format!("readers, {what}, every answer")),
+            rules: Rules::new(what),
+            outcomes: Outcomes::new(what),
+            first: None,
+        }
+    }
+
+    pub fn draw(&mut self, rng: &mut Rng, lists: u32) {
+        for &rust in compiled() {
+            for _ in 0..lists {
+                let buffer = draw::buffer(rng, rust.word(), LONGEST);
+                let list = draw::list(rng, rust.word(), &buffer, CALLS);
+                self.compare(rust, &buffer, &list);
+            }
+        }
+    }
+
+    fn compare(&mut self, rust: &'static dyn Readers, buffer: &[u8], list: &[Step]) {
         let mut case = Case::fresh(rust.word(), buffer, INTEGER);
         for (&Step { reader, call }, expected) in list.iter().zip(rust.run(buffer, list)) {
             case.reader = reader;
-            let answer = library::call(&case, call);
-            self.answers.agree(
+            let answer = (self.asked)(&case, call);
+            let same = self.answers.agree(
                 &format_args!("{call}, {case}"),
                 ("library", answer),
                 ("Rust", expected),
             );
-            if answer != expected {
+            if !same {
                 // The two have parted, so the rest says nothing.
+                self.first
+                    .get_or_insert_with(|| Input::of_list(rust, buffer, list));
                 return;
             }
             self.rules.note(&case, call, &expected);
@@ -65,6 +92,9 @@ impl Comparison {
 
     fn close(self, report: &mut Report) {
         report.close(self.answers);
+        if let Some(first) = &self.first {
+            smallest::tell(report, first, self.asked);
+        }
         self.rules.close(report);
         self.outcomes.close(report);
     }

@@ -7,7 +7,7 @@ use lexical_util_plain::iterator::{Bytes, DigitsIter, Iter};
 
 use super::answer::{Answer, Found};
 use super::call::{Call, Case, State, EXPONENT, FRACTION, INTEGER, READERS, SPECIAL};
-use super::small::{alphabet, for_each_buffer};
+use super::small::{self, alphabet, for_each_buffer};
 use super::words::DECIMAL;
 use super::{draw, library};
 use crate::group::{Group, Report};
@@ -20,7 +20,9 @@ const BUFFERS: u32 = 20_000;
 
 pub fn run(report: &mut Report, seed: u64) {
     let mut group = Group::new("plain reader, small buffers");
-    for_each_buffer(alphabet(DECIMAL), &mut |buffer| compare(&mut group, buffer));
+    for_each_buffer(alphabet(DECIMAL), small::LONGEST, &mut |buffer| {
+        compare(&mut group, buffer);
+    });
     report.close(group);
 
     let mut group = Group::new("plain reader, random buffers");

@@ -2,46 +2,73 @@
 
 use super::answer::Answer;
 use super::call::{Call, Case, READERS};
+use super::cells::Cells;
 use super::comparison::Comparison;
 use super::compiled::Readers;
 use super::words::compiled;
-use super::{draw, port, refusal};
+use super::{draw, library, port, refusal};
 use crate::group::{Group, Report};
 use crate::rng::Rng;
 
 const LONGEST: usize = 40;
 
-/// For each reader of each word.
-const BUFFERS: u32 = 5_000;
+/// How much is drawn.
+pub struct Amount {
+    /// Names the groups, and the random numbers that are drawn.
+    pub what: &'static str,
+    /// For each reader of each word, with a call of each kind for each.
+    pub buffers: u32,
+    pub shows_table: bool,
+}
 
-pub fn run(report: &mut Report, seed: u64) {
-    let mut comparison = Comparison::new("random buffers");
-    let mut port = Group::new("port that the benchmark times, random buffers");
-    let mut rng = Rng::new(seed, "reader buffers");
+/// What the gate draws.
+pub const GATE: Amount = Amount {
+    what: "random buffers",
+    buffers: 5_000,
+    shows_table: false,
+};
+
+pub fn run(report: &mut Report, seed: u64, amount: &Amount) {
+    let what = amount.what;
+    let mut comparison = Comparison::new(what, library::call);
+    let mut port = Group::new(format!("port that the benchmark times, {what}"));
+    let mut cells = Cells::new(what);
+    let mut rng = Rng::new(seed, what);
+    for_each_drawn(&mut rng, amount.buffers, &mut |rust, case, call| {
+        let expected = comparison.compare(rust, case, call);
+        cells.note(case, call, &expected);
+        compare_port(&mut port, case, call, expected);
+    });
+    comparison.close(report);
+    report.close(port);
+    cells.close(report, amount.shows_table);
+}
+
+/// What is done with each call that is drawn.
+type Visit<'a> = &'a mut dyn FnMut(&'static dyn Readers, &Case, Call);
+
+pub fn for_each_drawn(rng: &mut Rng, buffers: u32, visit: Visit) {
     for &rust in compiled() {
         let word = rust.word();
         for reader in READERS {
-            for _ in 0..BUFFERS {
-                let buffer = draw::buffer(&mut rng, word, LONGEST);
+            for _ in 0..buffers {
+                let buffer = draw::buffer(rng, word, LONGEST);
                 let case = Case {
                     word,
                     buffer: &buffer,
-                    state: draw::state(&mut rng, &buffer),
+                    state: draw::state(rng, &buffer),
                     reader,
                 };
-                for call in draw::calls(&mut rng, word, &buffer) {
-                    comparison.compare(rust, &case, call);
-                    compare_port(&mut port, rust, &case, call);
+                for call in draw::calls(rng, word, &buffer) {
+                    visit(rust, &case, call);
                 }
             }
         }
     }
-    comparison.close(report);
-    report.close(port);
 }
 
 /// The port has no refusals, and only the calls that are timed.
-fn compare_port(group: &mut Group, rust: &dyn Readers, case: &Case, call: Call) {
+fn compare_port(group: &mut Group, case: &Case, call: Call, expected: Answer) {
     let ported: Option<Answer> = match call {
         _ if refusal::of_call(case, call) != refusal::ACCEPTED => None,
         Call::NextAll => Some(port::next_all(case)),
@@ -53,7 +80,7 @@ fn compare_port(group: &mut Group, rust: &dyn Readers, case: &Case, call: Call) 
         group.agree(
             &format_args!("{call}, {case}"),
             ("port", answer),
-            ("Rust", rust.call(case, call)),
+            ("Rust", expected),
         );
     }
 }

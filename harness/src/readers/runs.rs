@@ -4,6 +4,7 @@ use super::call::{Call, Case, State};
 use super::compiled::Readers;
 use super::library;
 use super::small::counts;
+use super::smallest::{self, Input};
 use super::words::{compiled, with_flags, DECIMAL};
 use crate::group::{Group, Report};
 
@@ -16,6 +17,7 @@ const CALLS: [Call; 3] = [Call::Peek, Call::Next, Call::SkipZeros];
 
 pub fn run(report: &mut Report) {
     let mut group = Group::new("readers, long runs, peek, next and skip_zeros");
+    let mut first = None;
     let decimal = compiled()
         .iter()
         .filter(|rust| rust.word().hi() == DECIMAL.hi());
@@ -26,16 +28,26 @@ pub fn run(report: &mut Report) {
                     let buffer = [before, &b"_".repeat(length), after].concat();
                     let start = before.len();
                     for cursor in [start, start + length / 2] {
-                        compare_at(&mut group, rust, &buffer, cursor);
+                        compare_at(&mut group, &mut first, rust, &buffer, cursor);
                     }
                 }
             }
         }
     }
     report.close(group);
+    if let Some(first) = &first {
+        smallest::tell(report, first, library::call);
+    }
 }
 
-fn compare_at(group: &mut Group, rust: &dyn Readers, buffer: &[u8], cursor: usize) {
+/// Keeps the first input on which the two part.
+fn compare_at(
+    group: &mut Group,
+    first: &mut Option<Input>,
+    rust: &'static dyn Readers,
+    buffer: &[u8],
+    cursor: usize,
+) {
     let word = rust.word();
     for reader in with_flags(word) {
         for counts in counts(reader, cursor) {
@@ -46,11 +58,14 @@ fn compare_at(group: &mut Group, rust: &dyn Readers, buffer: &[u8], cursor: usiz
                 reader,
             };
             for call in CALLS {
-                group.agree(
+                let same = group.agree(
                     &format_args!("{call}, {case}"),
                     ("library", library::call(&case, call)),
                     ("Rust", rust.call(&case, call)),
                 );
+                if !same && first.is_none() {
+                    *first = Some(Input::of_call(rust, &case, call));
+                }
             }
         }
     }

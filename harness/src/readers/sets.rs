@@ -23,3 +23,12 @@ pub const ILTC: u32 = ILT | C;
 pub const SETS: [u32; 15] = [
     NONE, I, L, IL, T, IT, LT, ILT, IC, LC, ILC, TC, ITC, LTC, ILTC,
 ];
+
+/// A set by its letters.
+pub fn name(set: u32) -> String {
+    let letters = "ILTC".chars().enumerate();
+    letters
+        .filter(|&(place, _)| set >> place & 1 == 1)
+        .map(|(_, letter)| letter)
+        .collect()
+}

@@ -3,22 +3,32 @@
 use super::call::{ByteSet, Call, Case, State, SPECIAL};
 use super::comparison::Comparison;
 use super::compiled::Readers;
+use super::library;
 use super::words::{compiled, with_flags, without_flags};
 use crate::group::Report;
 use crate::oracle;
 use crate::word::{Field, Word};
 
-const LONGEST: usize = 5;
+/// The longest buffer that the gate goes through; each byte more takes five
+/// times as long.
+pub const LONGEST: usize = 5;
 
-pub fn run(report: &mut Report) {
-    let mut comparison = Comparison::new("small buffers");
+pub fn run(report: &mut Report, longest: usize) {
+    let what = format!("buffers of up to {longest} bytes");
+    let mut comparison = Comparison::new(&what, library::call);
     for &rust in compiled() {
         let word = rust.word();
         for reader in with_flags(word) {
-            compare_reader(&mut comparison, rust, reader, &calls(alphabet(word)));
+            compare_reader(
+                &mut comparison,
+                rust,
+                reader,
+                longest,
+                &calls(alphabet(word)),
+            );
         }
         for reader in without_flags(word) {
-            compare_reader(&mut comparison, rust, reader, &CALLS_WITHOUT_FLAGS);
+            compare_reader(&mut comparison, rust, reader, longest, &CALLS_WITHOUT_FLAGS);
         }
     }
     comparison.close(report);
@@ -35,10 +45,16 @@ const CALLS_WITHOUT_FLAGS: [Call; 6] = [
     Call::TakeN(usize::MAX),
 ];
 
-fn compare_reader(comparison: &mut Comparison, rust: &dyn Readers, reader: u8, calls: &[Call]) {
+fn compare_reader(
+    comparison: &mut Comparison,
+    rust: &'static dyn Readers,
+    reader: u8,
+    longest: usize,
+    calls: &[Call],
+) {
     let word = rust.word();
     let alphabet = alphabet(word);
-    for_each_buffer(alphabet, &mut |buffer| {
+    for_each_buffer(alphabet, longest, &mut |buffer| {
         for cursor in 0..=buffer.len() {
             for counts in counts(reader, cursor) {
                 let case = Case {
@@ -104,17 +120,21 @@ pub fn counts(reader: u8, cursor: usize) -> impl Iterator<Item = [usize; 3]> {
     all.into_iter().take(if cursor == 0 { 1 } else { 3 })
 }
 
-/// All buffers up to the longest, the shorter ones first.
-pub fn for_each_buffer(alphabet: [u8; 5], visit: &mut dyn FnMut(&[u8])) {
-    for length in 0..=LONGEST {
-        let mut buffer = [0; LONGEST];
-        for number in 0..alphabet.len().pow(length as u32) {
-            let mut rest = number;
-            for byte in &mut buffer[..length] {
-                *byte = alphabet[rest % alphabet.len()];
-                rest /= alphabet.len();
-            }
-            visit(&buffer[..length]);
+/// All buffers up to a length, the shorter ones first.
+pub fn for_each_buffer(alphabet: [u8; 5], longest: usize, visit: &mut dyn FnMut(&[u8])) {
+    for length in 0..=longest {
+        for_each_of_length(alphabet, length, visit);
+    }
+}
+
+pub fn for_each_of_length(alphabet: [u8; 5], length: usize, visit: &mut dyn FnMut(&[u8])) {
+    let mut buffer = vec![0; length];
+    for number in 0..alphabet.len().pow(length as u32) {
+        let mut rest = number;
+        for byte in &mut buffer {
+            *byte = alphabet[rest % alphabet.len()];
+            rest /= alphabet.len();
         }
+        visit(&buffer);
     }
 }

@@ -93,7 +93,7 @@ impl<'a> View<'a> {
     }
 
     /// The nearest byte before a place that is no separator.
-    fn before_run(&self, place: usize) -> Option<u8> {
+    pub fn before_run(&self, place: usize) -> Option<u8> {
         let mut place = place.wrapping_sub(1);
         while self.is_separator(self.at(place)) {
             place = place.wrapping_sub(1);
@@ -102,7 +102,7 @@ impl<'a> View<'a> {
     }
 
     /// The nearest byte behind a place that is no separator.
-    fn after_run(&self, place: usize) -> Option<u8> {
+    pub fn after_run(&self, place: usize) -> Option<u8> {
         self.at(self.end_of_run(place + 1))
     }
 

@@ -16,17 +16,17 @@ use crate::group::{Group, Report};
 use crate::oracle;
 use crate::rng::Rng;
 
-/// Lists for each word.
-const LISTS: u32 = 300;
+/// Lists for each word in the gate.
+pub const LISTS: u32 = 300;
 
-pub fn run(report: &mut Report, seed: u64) {
+pub fn run(report: &mut Report, seed: u64, lists: u32) {
     let mut tally = Tally::new();
     let mut rng = Rng::new(seed, "byte tally");
     let accepted = compiled()
         .iter()
         .filter(|rust| oracle::format_error(rust.word()) == ACCEPTED);
     for &rust in accepted {
-        for _ in 0..LISTS {
+        for _ in 0..lists {
             let buffer = &draw::buffer(&mut rng, rust.word(), LONGEST);
             let calls = &draw::list(&mut rng, rust.word(), buffer, CALLS);
             tally.check(&List {

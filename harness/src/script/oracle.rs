@@ -136,7 +136,7 @@ fn call(kind: u8, arguments: &[u8]) -> Call {
 
 /// The line of an answer. A block that was given has no byte to show; one that
 /// was not has nothing to show at all.
-fn line(call: Call, answer: &Answer) -> String {
+pub fn line(call: Call, answer: &Answer) -> String {
     let kind = records::kind(call);
     let shown = match answer.found {
         _ if answer.number != 0 => return format!("{kind} !{}\n", answer.number),

@@ -55,6 +55,18 @@ impl Script {
         self.raw(&[BLOCK, reader]).raw(&count.to_le_bytes())
     }
 
+    /// A call that has a record; of a block's size the lower 32 bits.
+    pub fn call(self, Step { reader, call }: Step) -> Self {
+        match call {
+            Call::Peek => self.peek(reader),
+            Call::Next => self.take(reader),
+            Call::ReadIfValueCased(value) => self.read(reader, value),
+            Call::SkipZeros => self.zero_skip(reader),
+            Call::TakeN(n) => self.block(reader, n as u32),
+            Call::NextAll | Call::ReadIf(_) => panic!("a script has no {call}"),
+        }
+    }
+
     /// The same call several times.
     pub fn takes(self, reader: u8, times: usize) -> Self {
         (0..times).fold(self, |script, _| script.take(reader))
@@ -80,6 +92,15 @@ pub fn kind(call: Call) -> u8 {
         Call::SkipZeros => ZERO_SKIP,
         Call::TakeN(_) => BLOCK,
         Call::NextAll | Call::ReadIf(_) => panic!("a script has no {call}"),
+    }
+}
+
+/// Whether a script can hold a call. A block's size has 32 bits there.
+pub fn has_record(call: Call) -> bool {
+    match call {
+        Call::NextAll | Call::ReadIf(_) => false,
+        Call::TakeN(n) => u32::try_from(n).is_ok(),
+        _ => true,
     }
 }
 
