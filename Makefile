@@ -1,13 +1,18 @@
 # make run    the script program: a call script on standard input, a line for each answer on standard output
 # make test   the gate: prove everything, refuse every must-fail edit, run every program and comparison
+# make compare far more comparisons of the readers with the Rust crate than the gate makes; SEED=0x1234 draws others
+# make boundary-valgrind, boundary-sanitize
+#             arbitrary arguments through every function from C, as the gate does it, watched by valgrind or by sanitizers
+# make fuzz   the same checks under libFuzzer (wants clang), for a minute
 # make replay the recorded answers of the Rust crate, through the proved library and the script program
 # make bench  the library and the script program beside the Rust crate, from one driver
 # make growth how the cost of a take to the end grows with the length of its cell
 # make lib    target/staticlib/libexport.a, for Rust and C to link (header: include/pawhetino.h)
 
 RT := $(shell tools/find-rt)
+PAWHETINO_LIB ?= target/staticlib/libexport.a
 
-.PHONY: run test replay bench growth lib harness record
+.PHONY: run test compare boundary-valgrind boundary-sanitize fuzz replay bench growth lib harness record
 
 # What is said while the program is built goes to standard error: standard output is the script's.
 run:
@@ -30,6 +35,27 @@ lib:
 
 harness: lib
 	harness/build
+
+# Some minutes. The seed is printed, and without SEED always the same.
+compare: harness
+	target/harness/harness compare $(SEED)
+
+# Fewer inputs than in the gate: a function takes some twenty times as long here.
+boundary-valgrind: lib
+	harness/c/build target/boundary-valgrind -g
+	valgrind -q --error-exitcode=1 target/boundary-valgrind --heap --rounds 40000
+	valgrind -q --error-exitcode=1 target/boundary-valgrind --rounds 40000
+
+# The sanitizers watch the C alone: the library is not built with them.
+boundary-sanitize: lib
+	harness/c/build target/boundary-sanitize -g -fsanitize=address,undefined -fno-sanitize-recover=all
+	target/boundary-sanitize --heap
+	target/boundary-sanitize
+
+fuzz: lib
+	clang -std=gnu11 -O1 -g -Wall -Wextra -Werror -fsanitize=fuzzer -Iinclude harness/c/fuzz.c harness/c/checks.c \
+		harness/c/fence.c $(PAWHETINO_LIB) -o target/fuzz
+	target/fuzz -seed=$(or $(SEED),1) -max_total_time=60 -print_final_stats=1 -artifact_prefix=target/fuzz-
 
 # keep FILE,COMMAND: prints what the command prints, keeps it in the file too, and fails where the command does.
 keep = $(2) > $(1); status=$$?; cat $(1); exit $$status
