@@ -128,8 +128,18 @@ fn digit_pairs(syntax: Syntax) -> Pairs
     }
 }
 
-// Whether ordinary cells of this buffer may be counted together.
-fn is_quick(s: &[u8], syntax: Syntax, reader: Reader) -> bool
+// Whether the cells take up the buffer to its end. What a column answers does not hang on it, only how fast.
+fn fills(s: &[u8], ends: &[usize]) -> bool {
+    if ends.len() == 0 {
+        return false;
+    }
+    let last = ends.len() - 1;
+    s.len() <= ends[last]
+}
+
+// Whether ordinary cells of this buffer may be counted together. Where runs are passed the whole buffer is looked through for one, so
+// only where the cells fill it: no byte behind them is read.
+fn is_quick(s: &[u8], filled: bool, syntax: Syntax, reader: Reader) -> bool
     ensures { λ q. ⌜ (q ≡ true → Quick syntax reader (now (s .entry))) ⌝ }
 {
     if !counts_digits(syntax.flags, reader) {
@@ -143,6 +153,9 @@ fn is_quick(s: &[u8], syntax: Syntax, reader: Reader) -> bool
     }
     if !syntax.flags.consecutive {
         return true;
+    }
+    if !filled {
+        return false;
     }
     count_pairs(double_pairs(syntax), s) == 0
 }
@@ -245,11 +258,18 @@ fn cell_totals(s: &[u8], format: Format, syntax: Syntax, reader: Reader) -> Tota
 }
 
 // The sums over a column that is not refused.
-fn column_totals(s: &[u8], ends: &[usize], format: Format, syntax: Syntax, reader: Reader) -> Totals
+fn column_totals(
+    s: &[u8],
+    ends: &[usize],
+    filled: bool,
+    format: Format,
+    syntax: Syntax,
+    reader: Reader,
+) -> Totals
     requires { ⌜ refusalWith (syntax .flags) (now s) (freshOf format) reader ≡ 0 ⌝ }
     ensures { λ r. ⌜ r ≡ columnFrom (readingWith syntax) format reader (now (s .entry)) 0 (now (ends .entry)) ⌝ }
 {
-    let quick = is_quick(s, syntax, reader);
+    let quick = is_quick(s, filled, syntax, reader);
     let mut sums = Totals {
         taken: 0,
         passed: 0,
@@ -285,7 +305,14 @@ pub fn next_all_column(s: &[u8], ends: &[usize], format: Format, reader: Reader)
     let flags = syntax.flags;
     let admitted = admit(s, State::fresh(format), flags, reader);
     match admitted {
-        Admission::Admitted => Column::Read(column_totals(s, ends, format, syntax, reader)),
+        Admission::Admitted => Column::Read(column_totals(
+            s,
+            ends,
+            fills(s, ends),
+            format,
+            syntax,
+            reader,
+        )),
         Admission::Refused(refusal) => Column::Refused(refusal),
     }
 }

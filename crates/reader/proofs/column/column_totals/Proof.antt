@@ -9,10 +9,10 @@ use Rattle.reader.proofs.column.column_totals.Statement.{statement}
 use Rattle.reader.proofs.column.column_totals.Tie as tie
 
 abbrev Inv-loop : tie.InvT-loop
-Inv-loop s ends format syntax reader quick sums₀ cell₀ at₀ sums cell at = Summed syntax format reader s ends sums cell at
+Inv-loop s ends filled format syntax reader quick sums₀ cell₀ at₀ sums cell at = Summed syntax format reader s ends sums cell at
 
 abbrev μ-loop : tie.MeasureT-loop
-μ-loop s ends format syntax reader quick sums₀ cell₀ at₀ sums cell at = length ends - cell
+μ-loop s ends filled format syntax reader quick sums₀ cell₀ at₀ sums cell at = length ends - cell
 
 is-quick-requires : tie.Need-is-quick-requires Inv-loop μ-loop
 is-quick-requires c κs = search needs

@@ -33,16 +33,19 @@ returns-4 c q =
     let a = k .before .before .before .args in
     quick-by-flags (a .syntax) (a .reader) (a .s .now) (sym (k .before .counts-digits .ensures) ∙ not-false _ (k .if1 .left)) (omega (arith, z .if2 .left)) (sym (d .char-is-digit-by-range .ensures) ∙ l .if3 .left) (not-true _ (c .if4 .taken))
 
+returns-5 : tie.Need-returns-5
+returns-5 c q = absurd (false≢true q)
+
 double-pairs-requires : tie.Need-double-pairs-requires
 double-pairs-requires c κs = search needs
 
 count-pairs-requires : tie.Need-count-pairs-requires
 count-pairs-requires c κs = search needs
 
-returns-5 : tie.Need-returns-5
-returns-5 c q =
+returns-6 : tie.Need-returns-6
+returns-6 c q =
     let p = c .before in
-    let l = p .before .before .before in
+    let l = p .before .before .before .before in
     let d = l .before in
     let z = d .before in
     let k = z .before .before in
@@ -60,6 +63,7 @@ is-quick-spec =
     char-is-digit-by-range-requires
     returns-3
     returns-4
+    returns-5
     double-pairs-requires
     count-pairs-requires
-    returns-5)
+    returns-6)

@@ -21,10 +21,14 @@ admit-requires c κs = search needs
 enum-told : tie.Need-enum-told
 enum-told c = search needs
 
+fills-requires : tie.Need-fills-requires
+fills-requires c κs = search needs
+
 column-totals-requires : tie.Need-column-totals-requires
 column-totals-requires c κs =
-    let d = c .before .before in
-    rw (d .before .fresh .ensures) at (sym (d .admit .ensures)) ∙ ap admissionNumber (c .enum-told .given .1)
+    let t = c .before in
+    let d = t .before .before in
+    rw (d .before .fresh .ensures) at (sym (d .admit .ensures)) ∙ ap admissionNumber (t .enum-told .given .1)
 
 enum-known-admitted : tie.Need-enum-known-admitted
 enum-known-admitted c = search needs
@@ -32,7 +36,7 @@ enum-known-admitted c = search needs
 returns : tie.Need-returns
 unfolding readingWith
 returns c =
-    let t = c .before in
+    let t = c .before .before in
     let d = t .before .before in
     let x = d .before .before .before in
     let a = x .before .before .before .args in
@@ -61,6 +65,7 @@ next-all-column-spec =
     fresh-requires
     admit-requires
     enum-told
+    fills-requires
     column-totals-requires
     enum-known-admitted
     returns
