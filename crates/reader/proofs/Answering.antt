@@ -24,14 +24,14 @@ use Rattle.reader.proofs.Tallies.{Tallied, tallied-on, skipping}
 -- a zero skip makes its reads, or it is refused and makes none
 pub skip-cases :
     (m : Reading) (s : List ℕ) (st : State) (r : Reader) (P : SkipOutcome → List Outcome → Type 0)
-    → P (skipped (repeated (length s) (zeroReadOf m s r) st)) (zeroReadsOf m s st r)
-    → P (refusedSkip (skipRefusal (m .flags) s st r) st) []
+    → (eqb (skipRefusal (m .flags) s st r) 0 ≡ true → P (skipped (repeated (length s) (zeroReadOf m s r) st)) (zeroReadsOf m s st r))
+    → (eqb (skipRefusal (m .flags) s st r) 0 ≡ false → P (refusedSkip (skipRefusal (m .flags) s st r) st) [])
     → P (skipZerosOf m s st r) (readsMade m s st r)
 unfolding skipZerosOf
 skip-cases m s st r P reads refuses = go (eqb (skipRefusal (m .flags) s st r) 0) refl where
   go : (t : Bool) → eqb (skipRefusal (m .flags) s st r) 0 ≡ t → P (skipZerosOf m s st r) (readsMade m s st r)
-  go true t = rw t reads
-  go false t = rw (t, t) refuses
+  go true t = rw t (reads t)
+  go false t = rw (t, t) (refuses t)
 
 module _ (m : Reader → Reading) (s : List ℕ) (f : Format) (st : State) (steps : List Step) (so-far : Tallied m s f st steps) where
   -- what an answer leaves: the tally with its steps, and a cursor moved by its own counts
@@ -54,8 +54,8 @@ module _ (m : Reader → Reading) (s : List ℕ) (f : Format) (st : State) (step
       let skips = skipping m s f r (length s) st steps so-far in
       skip-cases (m r) s st r
       (λ o reads. Answering (skipAnswered r o reads))
-      (record { tallied = skips .tallied; cursor = skips .cursor })
-      (record { tallied = so-far; cursor = omega arith })
+      (λ clear. record { tallied = skips .tallied; cursor = skips .cursor })
+      (λ away. record { tallied = so-far; cursor = omega arith })
 
   pub answering : (call : Call) → Answering (answerBy m s st call)
   answering (peekBy r) = one-step (answerBy m s st (peekBy r)) _ (peek-step m s st r) refl (peeks (m r) s st r .none-taken) refl

@@ -14,12 +14,13 @@ use Rattle.reader.specs.State.{freshOf, countOf, movedTo}
 use Rattle.reader.specs.Answer.{Outcome}
 use Rattle.reader.specs.Calls.{peekOf, nextOf, readIfOf}
 use Rattle.reader.specs.History.{Call, peekBy, takeBy, readIfBy, zeroSkipBy, blockBy, Answered, takeAnswered, readAnswered, answerBy, answerTo, numberIn, takenIn, passedIn, returned, shownIn, Run, runFrom, withAnswer, runOf, totalOf, stepsOf}
-use Rattle.reader.specs.ByteTally.{WordKept, readerOf, Preceded, peeked, PeekChangesNothing, runFresh, ByteTally}
+use Rattle.reader.specs.ByteTally.{CountsAgree, SkipsTold, WordKept, readerOf, Preceded, peeked, PeekChangesNothing, runFresh, ByteTally}
 use Rattle.reader.proofs.Settling.{Settles}
 use Rattle.reader.proofs.Peeking.{peeks}
 use Rattle.reader.proofs.Insertion.{stilled, take-after-peek, read-after-peek, take-passes, read-passes, zeros-same, state-same, passed-adds, skip-clear}
 use Rattle.reader.proofs.Tallies.{Tallied}
 use Rattle.reader.proofs.Answering.{Answering, answering}
+use Rattle.reader.proofs.SkipReads.{count-agrees, told, agreed}
 
 -- LISTS OF CALLS
 
@@ -28,6 +29,8 @@ module _ (m : Format → Reader → Reading) (s : List ℕ) (f : Format) where
   pub record Kept (w : Run) : Type 0 where
     pub tallied : Tallied (m f) s f (w .state) (stepsOf (w .history))
     pub cursor : w .state .cursor ≡ totalOf takenIn (w .history) + totalOf passedIn (w .history)
+    pub agree : CountsAgree (m f) (w .history)
+    pub skips : SkipsTold (w .history)
     pub word : WordKept f (w .history)
 
   pub kept-fresh : Kept (runFrom (freshOf f))
@@ -36,6 +39,8 @@ module _ (m : Format → Reader → Reading) (s : List ℕ) (f : Format) where
       record {
         tallied = record { bytes = refl; runs = tt; counts = nothing-counted; inside = omega arith; sums = omega arith; word = refl };
         cursor = refl;
+        agree = tt;
+        skips = tt;
         word = tt;
       }
     where
@@ -57,6 +62,8 @@ module _ (m : Format → Reader → Reading) (s : List ℕ) (f : Format) where
       record {
         tallied = answer .tallied;
         cursor = omega (arith, answer .cursor, so-far .cursor);
+        agree = (so-far .agree, λ r. count-agrees (m f) s (w .state) (w .history) r (agreed (m f) (w .history) (so-far .agree) r) call);
+        skips = (so-far .skips, told (m f) s (w .state) call);
         word = (so-far .word, answer .tallied .word);
       } in
       subst (λ (b : Answered). Kept (withAnswer w b)) (sym (own-word w so-far call)) kept
@@ -146,7 +153,9 @@ module _ (m : Format → Reader → Reading) (s : List ℕ) (f : Format) (law : 
         inside = all .tallied .inside;
         cursor = all .cursor;
         runs = all .tallied .runs;
-        counts = all .tallied .counts;
+        counts = λ r. all .tallied .counts r ∙ agreed (m f) (runFresh m s f calls .history) (all .agree) r;
+        agree = all .agree;
+        skips = all .skips;
         peeks = λ before call after e. peek-in-list before call;
         inserted = λ before call after e allowed.
             same-end before call after allowed ∙ ap (λ (l : List Call). runFresh m s f l .state) (sym e);

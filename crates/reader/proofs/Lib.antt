@@ -36,8 +36,10 @@ pub mod Insertion
 pub mod Steps
 pub mod Tallies
 pub mod Answering
+pub mod SkipReads
 pub mod Demand3
 pub mod Refusals
+pub mod Demand1
 pub mod Accepted
 pub mod PairLaws
 pub mod ColumnLaws

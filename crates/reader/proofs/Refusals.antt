@@ -85,7 +85,7 @@ module _ (P : ℕ → Type 0) (success : P 0) (special : P 18) where
       number-of (takeBy r) = take-answer m s st r cursor counts (own r)
       number-of (readIfBy r set) =
           read-cases (m r) s st r set (λ o. P (o .refusal)) (λ b e. success) success (λ e. peek-answer m s st r cursor counts (own r))
-      number-of (zeroSkipBy r) = skip-cases (m r) s st r (λ o reads. P (o .refusal)) success (skip-number m s st r cursor counts (own r))
+      number-of (zeroSkipBy r) = skip-cases (m r) s st r (λ o reads. P (o .refusal)) (λ clear. success) (λ away. skip-number m s st r cursor counts (own r))
       number-of (blockBy r n) = block-answer m s st r cursor counts (own r) n
 
 -- so, over a list, no call is refused by a number that is none of these

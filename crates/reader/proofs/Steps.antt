@@ -13,14 +13,16 @@ use lib.Seq.{length-take-le}
 use Rattle.reader.specs.declared.state.Reader.{Reader}
 use Rattle.reader.specs.declared.state.Reader.the-variants.{Integer, Fraction, Exponent, Special}
 use Rattle.reader.specs.declared.state.State.{State}
+use Rattle.reader.specs.declared.rule.Flags.{Flags}
 use Rattle.reader.specs.Place.{byteAt}
 use Rattle.reader.specs.Reading.{Reading, hasAnyFlag, mayPass}
 use Rattle.reader.specs.State.{countOf, countSum, movedTo, countedBy}
 use Rattle.reader.specs.Answer.{Outcome}
-use Rattle.reader.specs.Calls.{peekOf, takenFrom, takeByte, nextOf, readIfOf}
+use Rattle.reader.specs.Calls.{refusalWith, peekOf, takenFrom, takeByte, nextOf, readIfOf}
 use Rattle.reader.specs.ZeroSkip.{isZero, raised, zeroReadOf}
 use Rattle.reader.specs.Block.{blockRefusal, takeNOf, takeNPart}
 use Rattle.reader.specs.History.{Kind, aPeek, aTake, aRead, aZeroRead, aBlock, Step, byteTaken, stepOf, digitsIn, worth, countsFor}
+use Rattle.reader.proofs.Admission.{within, still-admitted}
 use Rattle.reader.proofs.ReadCases.{read-cases}
 use Rattle.reader.proofs.Takes.{byte-inside}
 use Rattle.reader.proofs.Peeking.{count-moved, Peeks, peeks}
@@ -35,6 +37,13 @@ pub record Moves (m : Reader → Reading) (s : List ℕ) (st : State) (e : Step)
   pub sums : countSum then ≤ countSum st + length (e .bytes)
   pub inside : st .cursor ≤ length s → then .cursor ≤ length s
   pub word : then .format ≡ st .format
+
+-- what is not refused before a step is not refused behind it
+pub moves-clear : (m : Reader → Reading) (s : List ℕ) (st : State) (e : Step) (then : State) → Moves m s st e then
+    → (f : Flags) (r : Reader) → refusalWith f s st r ≡ 0 → refusalWith f s then r ≡ 0
+moves-clear m s st e then moves f r clear =
+    let w = within f s st r clear in
+    still-admitted f s st then r (moves .inside (w .0)) (omega (arith, moves .sums, moves .cursor, w .1)) clear
 
 -- COUNTS
 

@@ -16,7 +16,7 @@ use Rattle.reader.specs.State.{countOf, countSum}
 use Rattle.reader.specs.Answer.{Outcome}
 use Rattle.reader.specs.Repeat.{summed, untilNone}
 use Rattle.reader.specs.ZeroSkip.{zeroReadOf}
-use Rattle.reader.specs.History.{aZeroRead, Step, stepOf, zeroSteps, joined, historyCount}
+use Rattle.reader.specs.History.{aZeroRead, Step, stepOf, zeroSteps, joined, stepCount}
 use Rattle.reader.specs.ByteTally.{RunAllowed, RunsAllowed}
 use Rattle.reader.proofs.Steps.{Moves, zero-step, zero-counts}
 
@@ -24,7 +24,7 @@ use Rattle.reader.proofs.Steps.{Moves, zero-step, zero-counts}
 pub record Tallied (m : Reader → Reading) (s : List ℕ) (f : Format) (st : State) (steps : List Step) : Type 0 where
   pub bytes : joined m steps ≡ take (st .cursor) s
   pub runs : RunsAllowed m s steps
-  pub counts : (r : Reader) → countOf st r ≡ historyCount m r steps
+  pub counts : (r : Reader) → countOf st r ≡ stepCount m r steps
   pub inside : st .cursor ≤ length s
   pub sums : countSum st ≤ st .cursor
   pub word : st .format ≡ f

@@ -3,6 +3,7 @@ use mathlib.Core.Path.{_≡_}
 use Prim.Native.Nat.{ℕ, _+_, _<_, _≤_}
 use mathlib.Core.Bool.{Bool, true}
 use mathlib.Core.List.{List, [], _∷_, _++_}
+use mathlib.Core.Option.{some, none}
 use lib.Dec.{eqb}
 use lib.ListN.{length, take, drop, replicate}
 use Rattle.word.specs.declared.format_flags.Format.{Format}
@@ -10,18 +11,62 @@ use Rattle.reader.specs.declared.state.Reader.{Reader}
 use Rattle.reader.specs.declared.state.State.{State}
 use Rattle.reader.specs.Reading.{Reading, mayPass}
 use Rattle.reader.specs.State.{freshOf, countOf}
-use Rattle.reader.specs.History.{Call, peekBy, takeBy, readIfBy, zeroSkipBy, blockBy, Answered, answerTo, numberIn, takenIn, passedIn, returned, shownIn, Run, runFrom, runOf, totalOf, Step, stepsOf, joined, historyCount}
+use Rattle.reader.specs.Answer.{Outcome, SkipOutcome}
+use Rattle.reader.specs.History.{Call, peekBy, takeBy, readIfBy, zeroSkipBy, blockBy, Answered, peekAnswered, takeAnswered, readAnswered, skipAnswered, blockAnswered, answerTo, numberIn, takenIn, passedIn, returned, shownIn, Run, runFrom, runOf, totalOf, Step, byteTaken, stepsOf, joined, historyCount, stepCount}
 
 -- A run of separators that a step passed is separators only. It began at the place whose number is how many bytes were joined
 -- before it: there the buffer has a separator and the reader's rule holds, first if its count of the history is 0 up to there,
--- else later.
+-- else later. A zero skip stands as its reads, so the count up to one of these has the zeros that those before it took.
 pub record RunAllowed (m : Reader → Reading) (s : List ℕ) (e : Step) (earlier : List Step) : Type 0 where
   pub separators : take (e .passed) (drop (length (joined m earlier)) s) ≡ replicate (e .passed) (m (e .reader) .separator)
-  pub rule : mayPass (m (e .reader)) s (eqb (historyCount m (e .reader) earlier) 0) (length (joined m earlier)) ≡ true
+  pub rule : mayPass (m (e .reader)) s (eqb (stepCount m (e .reader) earlier) 0) (length (joined m earlier)) ≡ true
 
 abbrev pub RunsAllowed : (Reader → Reading) → List ℕ → List Step → Type 0
 RunsAllowed m s [] = Unit {0}
 RunsAllowed m s (e ∷ earlier) = RunsAllowed m s earlier × (0 < e .passed → RunAllowed m s e earlier)
+
+-- Wherever a call ends, the count up to there by the steps is document 01's count of the history, by the answers.
+abbrev pub CountsAgree : (Reader → Reading) → List Answered → Type 0
+CountsAgree m [] = Unit {0}
+CountsAgree m (a ∷ earlier) = CountsAgree m earlier × ((r : Reader) → stepCount m r (stepsOf (a ∷ earlier)) ≡ historyCount m r (a ∷ earlier))
+
+-- "such reads of `0`, each raising the count, until one fails; the answer is how many", and "its taken and passed are the sums of
+-- theirs": how many reads took a byte, and what all of them took and passed.
+abbrev pub readsThatTook : List Outcome → ℕ
+readsThatTook [] = 0
+readsThatTook (o ∷ rest) = length (byteTaken (o .byte)) + readsThatTook rest
+
+abbrev pub takenByReads : List Outcome → ℕ
+takenByReads [] = 0
+takenByReads (o ∷ rest) = o .taken + takenByReads rest
+
+abbrev pub passedByReads : List Outcome → ℕ
+passedByReads [] = 0
+passedByReads (o ∷ rest) = o .passed + passedByReads rest
+
+-- each read but the last took a `0`, and the last took none; none was refused
+abbrev pub ZerosThenNone : List Outcome → Type 0
+ZerosThenNone [] = ⊥
+ZerosThenNone (o ∷ []) = (o .byte ≡ none) × (o .taken ≡ 0) × (o .refusal ≡ 0)
+ZerosThenNone (o ∷ next ∷ rest) = (o .byte ≡ some 48) × (o .taken ≡ 1) × (o .refusal ≡ 0) × ZerosThenNone (next ∷ rest)
+
+pub record SkipTold (o : SkipOutcome) (made : List Outcome) : Type 0 where
+  pub zeros : o .zeros ≡ some (readsThatTook made)
+  pub taken : o .taken ≡ takenByReads made
+  pub passed : o .passed ≡ passedByReads made
+  pub reads : ZerosThenNone made
+
+-- every zero skip that was not refused
+abbrev pub AnswerTold : Answered → Type 0
+AnswerTold (peekAnswered r o) = Unit {0}
+AnswerTold (takeAnswered r o) = Unit {0}
+AnswerTold (readAnswered r o) = Unit {0}
+AnswerTold (skipAnswered r o reads) = o .refusal ≡ 0 → SkipTold o reads
+AnswerTold (blockAnswered r o part) = Unit {0}
+
+abbrev pub SkipsTold : List Answered → Type 0
+SkipsTold [] = Unit {0}
+SkipsTold (a ∷ earlier) = SkipsTold earlier × AnswerTold a
 
 -- every call returned the word unchanged
 abbrev pub WordKept : Format → List Answered → Type 0
@@ -79,7 +124,11 @@ pub record ByteTally (m : Format → Reader → Reading) (s : List ℕ) (f : For
   -- each passed run is separators only and began where document 01 lets that reader pass
   pub runs : RunsAllowed (m f) s (stepsOf (runFresh m s f calls .history))
   -- each of the digit counts equals document 01's count of the history for its reader
-  pub counts : (r : Reader) → countOf (runFresh m s f calls .state) r ≡ historyCount (m f) r (stepsOf (runFresh m s f calls .history))
+  pub counts : (r : Reader) → countOf (runFresh m s f calls .state) r ≡ historyCount (m f) r (runFresh m s f calls .history)
+  -- which, after each call, is the count by which the runs are first or later
+  pub agree : CountsAgree (m f) (runFresh m s f calls .history)
+  -- each zero skip that is not refused answers how many of its reads took a byte, a `0` each; its last read, and no other, took none
+  pub skips : SkipsTold (runFresh m s f calls .history)
   -- a peek put into the list just before a take, conditional read or unrefused zero skip by the same reader changes nothing
   pub peeks :
       (before : List Call) (call : Call) (after : List Call) →

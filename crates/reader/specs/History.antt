@@ -85,6 +85,14 @@ shownIn (readAnswered r o) = o .byte
 shownIn (skipAnswered r o reads) = o .zeros
 shownIn (blockAnswered r o part) = o .block
 
+-- the part that a block take returns; the others return none
+abbrev pub partIn : Answered → List ℕ
+partIn (peekAnswered r o) = []
+partIn (takeAnswered r o) = []
+partIn (readAnswered r o) = []
+partIn (skipAnswered r o reads) = []
+partIn (blockAnswered r o part) = part
+
 -- THE CALLS OF A LIST: each gets the state that the last one returned.
 
 -- where a list has come to: the state last returned, and the history, the latest answer first
@@ -147,22 +155,42 @@ abbrev pub joined : (Reader → Reading) → List Step → List ℕ
 joined m [] = []
 joined m (e ∷ earlier) = joined m earlier ++ (replicate (e .passed) (m (e .reader) .separator) ++ e .bytes)
 
--- "The count of the history: zeros by the reader's zero skips, plus, if it has any flag, D bytes by its takes." The special reader
--- counts nothing.
+-- "The count of the history: zeros by the reader's zero skips, plus, if it has any flag, D bytes by its takes." The zeros are those
+-- that the zero skip answers, the bytes those that the takes answer. The special reader counts nothing.
 abbrev pub digitsIn : (ℕ → Bool) → List ℕ → ℕ
 digitsIn digit [] = 0
 digitsIn digit (b ∷ rest) = cond (digit b) 1 0 + digitsIn digit rest
 
-abbrev pub worth : Reading → Kind → List ℕ → ℕ
-worth m aPeek bytes = 0
-worth m aTake bytes = cond (hasAnyFlag (m .flags)) (digitsIn (m .digit) bytes) 0
-worth m aRead bytes = 0
-worth m aZeroRead bytes = length bytes
-worth m aBlock bytes = 0
+abbrev pub digitsTaken : Reading → List ℕ → ℕ
+digitsTaken m bytes = cond (hasAnyFlag (m .flags)) (digitsIn (m .digit) bytes) 0
+
+abbrev pub zerosTold : Option ℕ → ℕ
+zerosTold none = 0
+zerosTold (some n) = n
 
 abbrev pub countsFor : Reader → Reader → Bool
 countsFor r by = isCounted r && eqb (readerNumber r) (readerNumber by)
 
-abbrev pub historyCount : (Reader → Reading) → Reader → List Step → ℕ
+abbrev pub addedTo : (Reader → Reading) → Reader → Answered → ℕ
+addedTo m r (peekAnswered by o) = 0
+addedTo m r (takeAnswered by o) = cond (countsFor r by) (digitsTaken (m by) (byteTaken (o .byte))) 0
+addedTo m r (readAnswered by o) = 0
+addedTo m r (skipAnswered by o reads) = cond (countsFor r by) (zerosTold (o .zeros)) 0
+addedTo m r (blockAnswered by o part) = 0
+
+abbrev pub historyCount : (Reader → Reading) → Reader → List Answered → ℕ
 historyCount m r [] = 0
-historyCount m r (e ∷ earlier) = historyCount m r earlier + cond (countsFor r (e .reader)) (worth (m (e .reader)) (e .kind) (e .bytes)) 0
+historyCount m r (a ∷ earlier) = historyCount m r earlier + addedTo m r a
+
+-- The same count up to a step, which may be a read in the midst of a zero skip: there the reads so far have raised it, by the bytes that
+-- they took.
+abbrev pub worth : Reading → Kind → List ℕ → ℕ
+worth m aPeek bytes = 0
+worth m aTake bytes = digitsTaken m bytes
+worth m aRead bytes = 0
+worth m aZeroRead bytes = length bytes
+worth m aBlock bytes = 0
+
+abbrev pub stepCount : (Reader → Reading) → Reader → List Step → ℕ
+stepCount m r [] = 0
+stepCount m r (e ∷ earlier) = stepCount m r earlier + cond (countsFor r (e .reader)) (worth (m (e .reader)) (e .kind) (e .bytes)) 0

@@ -14,4 +14,5 @@ pub mod History
 pub mod ByteTally
 pub mod Plain
 pub mod Column
+pub mod RefusalKeeps
 pub mod Ordinary
