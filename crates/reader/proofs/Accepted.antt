@@ -58,7 +58,7 @@ module _ (f : Format) (accepted : fullCheck f ≡ 0) where
   pub only-18 : (s : List ℕ) (calls : List Call) (number : ℕ) → 0 < number → (number ≡ 18 → ⊥)
       → NeverRefusedBy number (runFresh readingOf s f calls .history)
   only-18 s calls number some-number other =
-      never-refused-by readingOf s f number (λ e. omega arith) (λ e. other (sym e)) (λ r e. omega (arith, consecutive-holds r)) calls
+      never-refused-by readingOf s f consecutive-holds number (λ e. omega arith) (λ e. other (sym e)) calls
 
   -- Cursor past the end, and counts above the cursor, never arise.
   pub never-16-nor-17 : (s : List ℕ) (calls : List Call)

@@ -38,8 +38,8 @@ pub mod Tallies
 pub mod Answering
 pub mod SkipReads
 pub mod Demand3
-pub mod Refusals
 pub mod Demand1
+pub mod Refusals
 pub mod Accepted
 pub mod PairLaws
 pub mod ColumnLaws
