@@ -1,5 +1,6 @@
 -- The history of a list of calls (document 01, "Readers"): the calls so far with the answers that the contracts promise, and what is
--- joined and counted from these answers alone. Assumes nothing.
+-- joined and counted from them. A zero skip "stands as those reads", so they stand beside its answer; the byte tally holds the two
+-- together. Assumes nothing.
 use Prim.Native.Nat.{ℕ, _+_}
 use mathlib.Core.Bool.{Bool, cond, _&&_}
 use mathlib.Core.List.{List, [], _∷_, _++_}
@@ -24,7 +25,7 @@ pub data Call : Type 0 where
   zeroSkipBy : Reader → Call
   blockBy : Reader → ℕ → Call
 
--- A call with its answer. A zero skip stands with its reads, a block with its part.
+-- A call with its answer. A zero skip stands with the reads that it is, a block with its part.
 pub data Answered : Type 0 where
   peekAnswered : Reader → Outcome → Answered
   takeAnswered : Reader → Outcome → Answered
