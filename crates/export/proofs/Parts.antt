@@ -6,7 +6,7 @@ use Prim.Native.Nat.{ℕ}
 use lib.ListN.{take, drop}
 use Rattle.reader.specs.declared.state.Reader.{Reader}
 use Rattle.reader.specs.declared.state.State.{State}
-use Rattle.reader.specs.Reading.{readingOf}
+use Rattle.reader.specs.Reading.{readingFor}
 use Rattle.reader.specs.Block.{partAt, takeNOf, takeNPart}
 use Rattle.export.specs.declared.block.PartReply.{PartReply}
 use Rattle.reader.specs.State.{readerNamed}
@@ -26,4 +26,4 @@ unfolding partWritten blockTakenBy partTakenBy takeNPart
 part-told n s st k = go (readerNamed n) refl where
   go : (by : Option Reader) → readerNamed n ≡ by → bytesAt s (partWritten (st .cursor) (blockTakenBy n s st k)) ≡ partTakenBy n s st k
   go none e = rw e
-  go (some r) e = rw e (bytes-of-block s (st .cursor) (takeNOf (readingOf (st .format) r) s st r k .block))
+  go (some r) e = rw e (bytes-of-block s (st .cursor) (takeNOf (readingFor st r) s st r k .block))

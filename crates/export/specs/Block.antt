@@ -4,7 +4,7 @@ use mathlib.Core.List.{List, []}
 use mathlib.Core.Option.{Option, some, none}
 use Rattle.reader.specs.declared.state.State.{State}
 use Rattle.reader.specs.Answer.{BlockOutcome}
-use Rattle.reader.specs.Reading.{readingOf}
+use Rattle.reader.specs.Reading.{readingFor}
 use Rattle.reader.specs.Block.{refusedBlock, takeNOf, takeNPart}
 use Rattle.export.specs.declared.block.BlockReply.{BlockReply}
 use Rattle.export.specs.declared.block.PartReply.{PartReply}
@@ -37,10 +37,10 @@ partWritten cursor o =
 
 -- A block take by the reader that a byte names, and its part; a byte that names none has an empty part.
 unfoldable pub blockTakenBy : ℕ → List ℕ → State → ℕ → BlockOutcome
-blockTakenBy n s st k = byReader (readerNamed n) (refusedBlock 19 st) (λ r. takeNOf (readingOf (st .format) r) s st r k)
+blockTakenBy n s st k = byReader (readerNamed n) (refusedBlock 19 st) (λ r. takeNOf (readingFor st r) s st r k)
 
 unfoldable pub partTakenBy : ℕ → List ℕ → State → ℕ → List ℕ
-partTakenBy n s st k = byReader (readerNamed n) [] (λ r. takeNPart (readingOf (st .format) r) s st r k)
+partTakenBy n s st k = byReader (readerNamed n) [] (λ r. takeNPart (readingFor st r) s st r k)
 
 -- the number returned and what the caller then has behind its pointers
 abbrev pub blockHeld : (number cursor integer fraction exponent found taken passed : ℕ) → BlockReply

@@ -5,7 +5,7 @@ use Rattle.word.specs.declared.format_flags.Format.{Format}
 use Rattle.reader.specs.declared.state.State.{State}
 use Rattle.reader.specs.State.{readerNamed}
 use Rattle.reader.specs.Answer.{Outcome}
-use Rattle.reader.specs.Reading.{readingOf}
+use Rattle.reader.specs.Reading.{readingOf, readingFor}
 use Rattle.reader.specs.Calls.{nextAllOf, refused}
 use Rattle.reader.specs.Column.{noTotals, ColumnOutcome, columnOf}
 use Rattle.export.specs.declared.cells.ColumnReply.{ColumnReply}
@@ -13,7 +13,7 @@ use Rattle.export.specs.Reply.{byReader}
 
 -- takes to the end of a cell by the reader that a byte names
 unfoldable pub takenAllBy : ℕ → List ℕ → State → Outcome
-takenAllBy n s st = byReader (readerNamed n) (refused 19 st) (λ r. nextAllOf (readingOf (st .format) r) s st r)
+takenAllBy n s st = byReader (readerNamed n) (refused 19 st) (λ r. nextAllOf (readingFor st r) s st r)
 
 -- the same of a column's cells
 unfoldable pub columnReadBy : ℕ → Format → List ℕ → List ℕ → ColumnOutcome

@@ -12,7 +12,7 @@ use Rattle.reader.specs.declared.state.State.{State}
 use Rattle.reader.specs.State.{readerNamed}
 use Rattle.reader.specs.Answer.{Outcome, CountOutcome}
 use Rattle.reader.specs.Plain.{PlainOutcome, plainPeekOf, plainNextOf}
-use Rattle.reader.specs.Reading.{readingOf}
+use Rattle.reader.specs.Reading.{readingFor}
 use Rattle.reader.specs.Calls.{peekOf, nextOf, readIfOf, currentCountOf, refused}
 use Rattle.export.specs.declared.reply.Reply.{Reply}
 use Rattle.export.specs.declared.reply.FullReply.{FullReply}
@@ -69,11 +69,11 @@ written old o =
 
 -- the calls that answer a byte
 unfoldable pub callOf : Call → List ℕ → State → Reader → Outcome
-callOf call.Peek s st r = peekOf (readingOf (st .format) r) s st r
-callOf call.Next s st r = nextOf (readingOf (st .format) r) s st r
+callOf call.Peek s st r = peekOf (readingFor st r) s st r
+callOf call.Next s st r = nextOf (readingFor st r) s st r
 callOf (call.ReadIf a b c d) s st r =
-    readIfOf (readingOf (st .format) r) s st r (member (record { bits = a ∷ b ∷ c ∷ d ∷ [] }))
-callOf (call.ReadIfValueCased value) s st r = readIfOf (readingOf (st .format) r) s st r (λ b. eqb b value)
+    readIfOf (readingFor st r) s st r (member (record { bits = a ∷ b ∷ c ∷ d ∷ [] }))
+callOf (call.ReadIfValueCased value) s st r = readIfOf (readingFor st r) s st r (λ b. eqb b value)
 
 -- What is answered by the reader that a byte names. A byte that names none is refused with 19, whatever else is wrong.
 abbrev pub byReader : {A : Type 0} → Option Reader → A → (Reader → A) → A
@@ -97,7 +97,7 @@ plainCalledBy n asked s at = byReader (readerNamed n) (plainRefused 19 at) (λ r
 -- the count that is shown
 unfoldable pub countedFor : ℕ → List ℕ → State → CountOutcome
 countedFor n s st =
-    byReader (readerNamed n) (record { refusal = 19; count = none }) (λ r. currentCountOf (readingOf (st .format) r) s st r)
+    byReader (readerNamed n) (record { refusal = 19; count = none }) (λ r. currentCountOf (readingFor st r) s st r)
 
 -- a count as it is written where its place has `old`
 abbrev pub countWritten : ℕ → CountOutcome → CountReply

@@ -3,7 +3,7 @@ use Prim.Native.Nat.{ℕ}
 use mathlib.Core.List.{List}
 use Rattle.reader.specs.declared.state.State.{State}
 use Rattle.reader.specs.Answer.{SkipOutcome}
-use Rattle.reader.specs.Reading.{readingOf}
+use Rattle.reader.specs.Reading.{readingFor}
 use Rattle.reader.specs.ZeroSkip.{refusedSkip, skipZerosOf}
 use Rattle.export.specs.declared.zeros.SkipReply.{SkipReply}
 use Rattle.export.specs.Numbers.{numbersOf, numbersHeld}
@@ -17,7 +17,7 @@ skipWritten old o =
 
 -- a zero skip by the reader that a byte names
 unfoldable pub skippedBy : ℕ → List ℕ → State → SkipOutcome
-skippedBy n s st = byReader (readerNamed n) (refusedSkip 19 st) (λ r. skipZerosOf (readingOf (st .format) r) s st r)
+skippedBy n s st = byReader (readerNamed n) (refusedSkip 19 st) (λ r. skipZerosOf (readingFor st r) s st r)
 
 -- the number returned and what the caller then has behind its pointers
 abbrev pub skipHeld : (number cursor integer fraction exponent zeros taken passed : ℕ) → SkipReply

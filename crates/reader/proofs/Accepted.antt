@@ -1,19 +1,19 @@
--- DEMAND 3, for every word that the full check accepts, with document 01's reading of it. Nothing else is assumed.
+-- DEMAND 3, for every sheet whose word the full check accepts. Nothing else is assumed.
 use mathlib.Core.Path.{_≡_, _∙_, refl, sym, ap}
 use mathlib.Core.Bool.{Bool, true, false, cond, not, _&&_}
 use mathlib.Core.List.{List}
 use mathlib.Core.Option.{some}
 use Prim.Native.Nat.{ℕ, _<_}
 use native.Mathlib.Omega.{arith}
-use Rattle.word.specs.declared.format_flags.Format.{Format}
 use Rattle.word.specs.Word.{flag, digitSeparator}
 use Rattle.word.specs.Check.{consecutiveAlone, fullCheck}
 use Rattle.word.proofs.Accepted.{separator-no-digit, none-alone}
 use Rattle.reader.specs.declared.state.Reader.{Reader}
 use Rattle.reader.specs.declared.state.Reader.the-variants.{Integer, Fraction, Exponent, Special}
 use Rattle.reader.specs.declared.rule.Neighbour.{Neighbour}
+use Rattle.reader.specs.State.{Sheet}
 use Rattle.reader.specs.Place.{isSeparator}
-use Rattle.reader.specs.Reading.{Reading, flagsOf, syntaxOf, readingWith, readingOf, isConsecutiveAlone, neighbourOf}
+use Rattle.reader.specs.Reading.{Reading, flagsOf, syntaxOf, syntaxOn, readingWith, readingOn, isConsecutiveAlone, neighbourOf}
 use Rattle.reader.specs.Calls.{lineConsecutive}
 use Rattle.reader.specs.History.{Call}
 use Rattle.reader.specs.ByteTally.{NeverRefusedBy, runFresh, ByteTally}
@@ -22,45 +22,45 @@ use Rattle.reader.proofs.Settling.{separator-is, Settles}
 use Rattle.reader.proofs.Demand3.{byte-tally}
 use Rattle.reader.proofs.Refusals.{never-refused-by}
 
-module _ (f : Format) (accepted : fullCheck f ≡ 0) where
+module _ (sheet : Sheet) (accepted : fullCheck (sheet .format) ≡ 0) where
   -- a separator that stands beside another is no digit
-  a-separator : (r : Reader) (b : ℕ) → isSeparator (readingOf f r .separator) b ≡ true → neighbourOf (readingOf f r) (some b) ≡ aSeparator
-  unfolding neighbourOf readingWith syntaxOf
+  a-separator : (r : Reader) (b : ℕ) → isSeparator (readingOn sheet r .separator) b ≡ true → neighbourOf (readingOn sheet r) (some b) ≡ aSeparator
+  unfolding neighbourOf readingWith syntaxOn syntaxOf
   a-separator r b e =
-      let no-digit : readingOf f r .digit b ≡ false = rw (separator-is (digitSeparator f) b e) (separator-no-digit f accepted) in
+      let no-digit : readingOn sheet r .digit b ≡ false = rw (separator-is (digitSeparator (sheet .format)) b e) (separator-no-digit (sheet .format) accepted) in
       rw (no-digit, e)
 
-  settles-accepted : (r : Reader) → Settles (readingOf f r)
+  settles-accepted : (r : Reader) → Settles (readingOn sheet r)
   unfolding readingWith
   settles-accepted r =
       record {
         once = λ isFirst b x p n alone hb hx front.
-            rw (a-separator r b hb) (settles (readingOf f r .flags) isFirst p n alone (rw (a-separator r x hx) at front));
+            rw (a-separator r b hb) (settles (readingOn sheet r .flags) isFirst p n alone (rw (a-separator r x hx) at front));
       }
 
   -- DEMAND 3
-  pub demand-3 : (s : List ℕ) (calls : List Call) → ByteTally readingOf s f calls
-  demand-3 s calls = byte-tally readingOf s f settles-accepted calls
+  pub demand-3 : (s : List ℕ) (calls : List Call) → ByteTally readingOn s sheet calls
+  demand-3 s calls = byte-tally readingOn s sheet settles-accepted calls
 
   -- no reader's consecutive flag stands alone, so lines 12 to 14 hold
   line-special : (b : Bool) → (b && not b && not b && not b) ≡ false
   line-special true = refl
   line-special false = refl
 
-  consecutive-holds : (r : Reader) → lineConsecutive (readingOf f r .flags) r ≡ 0
-  unfolding readingWith syntaxOf flagsOf consecutiveAlone
-  consecutive-holds Integer = rw (none-alone f accepted .0)
-  consecutive-holds Fraction = rw (none-alone f accepted .1)
-  consecutive-holds Exponent = rw (none-alone f accepted .2)
-  consecutive-holds Special = rw (line-special (flag f 44))
+  consecutive-holds : (r : Reader) → lineConsecutive (readingOn sheet r .flags) r ≡ 0
+  unfolding readingWith syntaxOn syntaxOf flagsOf consecutiveAlone
+  consecutive-holds Integer = rw (none-alone (sheet .format) accepted .0)
+  consecutive-holds Fraction = rw (none-alone (sheet .format) accepted .1)
+  consecutive-holds Exponent = rw (none-alone (sheet .format) accepted .2)
+  consecutive-holds Special = rw (line-special (flag (sheet .format) 44))
 
   -- On such a list 18 is the only refusal.
   pub only-18 : (s : List ℕ) (calls : List Call) (number : ℕ) → 0 < number → (number ≡ 18 → ⊥)
-      → NeverRefusedBy number (runFresh readingOf s f calls .history)
+      → NeverRefusedBy number (runFresh readingOn s sheet calls .history)
   only-18 s calls number some-number other =
-      never-refused-by readingOf s f consecutive-holds number (λ e. omega arith) (λ e. other (sym e)) calls
+      never-refused-by readingOn s sheet consecutive-holds number (λ e. omega arith) (λ e. other (sym e)) calls
 
   -- Cursor past the end, and counts above the cursor, never arise.
   pub never-16-nor-17 : (s : List ℕ) (calls : List Call)
-      → NeverRefusedBy 16 (runFresh readingOf s f calls .history) × NeverRefusedBy 17 (runFresh readingOf s f calls .history)
+      → NeverRefusedBy 16 (runFresh readingOn s sheet calls .history) × NeverRefusedBy 17 (runFresh readingOn s sheet calls .history)
   never-16-nor-17 s calls = (only-18 s calls 16 (omega arith) (λ e. omega arith), only-18 s calls 17 (omega arith) (λ e. omega arith))

@@ -7,10 +7,10 @@ use Prim.Native.Nat.{ℕ, _+_, _≤_}
 use native.Mathlib.Omega.{arith}
 use lib.Dec.{eqb}
 use lib.ListN.{length}
-use Rattle.word.specs.declared.format_flags.Format.{Format}
 use Rattle.reader.specs.declared.state.Reader.{Reader}
 use Rattle.reader.specs.declared.state.State.{State}
 use Rattle.reader.specs.Reading.{Reading}
+use Rattle.reader.specs.State.{Sheet}
 use Rattle.reader.specs.Answer.{Outcome, SkipOutcome}
 use Rattle.reader.specs.Calls.{peekOf, nextOf, readIfOf}
 use Rattle.reader.specs.Repeat.{untilNone, repeated}
@@ -33,10 +33,10 @@ skip-cases m s st r P reads refuses = go (eqb (skipRefusal (m .flags) s st r) 0)
   go true t = rw t (reads t)
   go false t = rw (t, t) (refuses t)
 
-module _ (m : Reader → Reading) (s : List ℕ) (f : Format) (st : State) (steps : List Step) (so-far : Tallied m s f st steps) where
+module _ (m : Reader → Reading) (s : List ℕ) (sheet : Sheet) (st : State) (steps : List Step) (so-far : Tallied m s sheet st steps) where
   -- what an answer leaves: the tally with its steps, and a cursor moved by its own counts
   pub record Answering (a : Answered) : Type 0 where
-    pub tallied : Tallied m s f (returned a) (withSteps a steps)
+    pub tallied : Tallied m s sheet (returned a) (withSteps a steps)
     pub cursor : returned a .cursor ≡ st .cursor + takenIn a + passedIn a
 
   -- of an answer that is one step
@@ -44,14 +44,14 @@ module _ (m : Reader → Reading) (s : List ℕ) (f : Format) (st : State) (step
       → takenIn a ≡ length (e .bytes) → passedIn a ≡ e .passed → Answering a
   one-step a e moves step taken passed =
       record {
-        tallied = rw step (tallied-on m s f st steps so-far e (returned a) moves);
+        tallied = rw step (tallied-on m s sheet st steps so-far e (returned a) moves);
         cursor = omega (arith, moves .cursor, taken, passed);
       }
 
   skip-answers : (r : Reader) → Answering (skipAnswered r (skipZerosOf (m r) s st r) (readsMade (m r) s st r))
   unfolding zeroReadsOf
   skip-answers r =
-      let skips = skipping m s f r (length s) st steps so-far in
+      let skips = skipping m s sheet r (length s) st steps so-far in
       skip-cases (m r) s st r
       (λ o reads. Answering (skipAnswered r o reads))
       (λ clear. record { tallied = skips .tallied; cursor = skips .cursor })

@@ -17,7 +17,7 @@ use Rattle.reader.specs.declared.state.Reader.{Reader}
 use Rattle.reader.specs.declared.state.Reader.the-variants.{Integer, Fraction, Exponent, Special}
 use Rattle.reader.specs.declared.state.State.{State}
 use Rattle.reader.specs.Reading.{Reading, hasAnyFlag, isConsecutiveAlone}
-use Rattle.reader.specs.State.{countSum, freshOf, isCounted}
+use Rattle.reader.specs.State.{Sheet, sheetOf, countSum, freshOf, isCounted}
 use Rattle.reader.specs.Answer.{Outcome}
 use Rattle.reader.specs.Calls.{consecutiveNumber, line16, line17, line18, lineConsecutive, placeRefusal, refusalWith, refusalOf, refused, peeked, peekOf, takeByte, nextOf, readByteIf, readIfOf, nextAllOf, currentCountOf}
 use Rattle.reader.specs.Repeat.{untilNone, repeated}
@@ -177,9 +177,9 @@ module _ (m : Reader → Reading) (s : List ℕ) (st : State) where
   result-or-refusal (blockBy r n) = block-keeps r n
 
 -- DEMAND 1
-pub demand-1 : (m : Format → Reader → Reading) (s : List ℕ) (st : State) (call : Call)
-    → ResultOrRefusal (m (st .format)) s st call (answerTo m s st call)
-demand-1 m s st call = result-or-refusal (m (st .format)) s st call
+pub demand-1 : (m : Sheet → Reader → Reading) (s : List ℕ) (st : State) (call : Call)
+    → ResultOrRefusal (m (sheetOf st)) s st call (answerTo m s st call)
+demand-1 m s st call = result-or-refusal (m (sheetOf st)) s st call
 
 -- THE OTHERS
 

@@ -5,12 +5,11 @@ use Prim.Native.Nat.{ℕ, _+_, _≤_}
 use native.Mathlib.Nat.{add-zero}
 use native.Mathlib.Omega.{arith}
 use lib.ListN.{length}
-use Rattle.word.specs.declared.format_flags.Format.{Format}
 use Rattle.reader.specs.declared.state.Reader.{Reader}
 use Rattle.reader.specs.declared.state.Reader.the-variants.{Integer, Fraction, Exponent, Special}
 use Rattle.reader.specs.declared.state.State.{State}
 use Rattle.reader.specs.Reading.{Reading}
-use Rattle.reader.specs.State.{freshOf, countOf, movedTo}
+use Rattle.reader.specs.State.{Sheet, sheetOf, freshOn, countOf, movedTo}
 use Rattle.reader.specs.Answer.{Outcome}
 use Rattle.reader.specs.Calls.{peekOf, nextOf, readIfOf}
 use Rattle.reader.specs.History.{Call, peekBy, takeBy, readIfBy, zeroSkipBy, blockBy, Answered, takeAnswered, readAnswered, answerBy, answerTo, numberIn, takenIn, passedIn, returned, shownIn, Run, runFrom, withAnswer, runOf, totalOf, stepsOf}
@@ -24,16 +23,16 @@ use Rattle.reader.proofs.SkipReads.{count-agrees, told, agreed}
 
 -- LISTS OF CALLS
 
-module _ (m : Format → Reader → Reading) (s : List ℕ) (f : Format) where
+module _ (m : Sheet → Reader → Reading) (s : List ℕ) (sheet : Sheet) where
   -- what holds wherever a list has come to
   pub record Kept (w : Run) : Type 0 where
-    pub tallied : Tallied (m f) s f (w .state) (stepsOf (w .history))
+    pub tallied : Tallied (m sheet) s sheet (w .state) (stepsOf (w .history))
     pub cursor : w .state .cursor ≡ totalOf takenIn (w .history) + totalOf passedIn (w .history)
-    pub agree : CountsAgree (m f) (w .history)
+    pub agree : CountsAgree (m sheet) (w .history)
     pub skips : SkipsTold (w .history)
-    pub word : WordKept f (w .history)
+    pub word : WordKept sheet (w .history)
 
-  pub kept-fresh : Kept (runFrom (freshOf f))
+  pub kept-fresh : Kept (runFrom (freshOn sheet))
   unfolding countOf
   kept-fresh =
       record {
@@ -44,26 +43,26 @@ module _ (m : Format → Reader → Reading) (s : List ℕ) (f : Format) where
         word = tt;
       }
     where
-      nothing-counted : (r : Reader) → countOf (freshOf f) r ≡ 0
+      nothing-counted : (r : Reader) → countOf (freshOn sheet) r ≡ 0
       nothing-counted Integer = refl
       nothing-counted Fraction = refl
       nothing-counted Exponent = refl
       nothing-counted Special = refl
 
-  -- the state's word is that of the list
-  pub own-word : (w : Run) → Kept w → (call : Call) → answerTo m s (w .state) call ≡ answerBy (m f) s (w .state) call
-  own-word w so-far call = ap (λ (g : Format). answerBy (m g) s (w .state) call) (so-far .tallied .word)
+  -- the state's sheet is that of the list
+  pub own-word : (w : Run) → Kept w → (call : Call) → answerTo m s (w .state) call ≡ answerBy (m sheet) s (w .state) call
+  own-word w so-far call = ap (λ (g : Sheet). answerBy (m g) s (w .state) call) (so-far .tallied .word)
 
   pub kept-on : (w : Run) → Kept w → (call : Call) → Kept (withAnswer w (answerTo m s (w .state) call))
   kept-on w so-far call =
-      let a = answerBy (m f) s (w .state) call in
-      let answer = answering (m f) s f (w .state) (stepsOf (w .history)) (so-far .tallied) call in
+      let a = answerBy (m sheet) s (w .state) call in
+      let answer = answering (m sheet) s sheet (w .state) (stepsOf (w .history)) (so-far .tallied) call in
       let kept : Kept (withAnswer w a) =
       record {
         tallied = answer .tallied;
         cursor = omega (arith, answer .cursor, so-far .cursor);
-        agree = (so-far .agree, λ r. count-agrees (m f) s (w .state) (w .history) r (agreed (m f) (w .history) (so-far .agree) r) call);
-        skips = (so-far .skips, told (m f) s (w .state) call);
+        agree = (so-far .agree, λ r. count-agrees (m sheet) s (w .state) (w .history) r (agreed (m sheet) (w .history) (so-far .agree) r) call);
+        skips = (so-far .skips, told (m sheet) s (w .state) call);
         word = (so-far .word, answer .tallied .word);
       } in
       subst (λ (b : Answered). Kept (withAnswer w b)) (sym (own-word w so-far call)) kept
@@ -72,23 +71,23 @@ module _ (m : Format → Reader → Reading) (s : List ℕ) (f : Format) where
   kept-all [] w so-far = so-far
   kept-all (call ∷ rest) w so-far = kept-all rest (withAnswer w (answerTo m s (w .state) call)) (kept-on w so-far call)
 
-  pub kept : (calls : List Call) → Kept (runFresh m s f calls)
-  kept calls = kept-all calls (runFrom (freshOf f)) kept-fresh
+  pub kept : (calls : List Call) → Kept (runFresh m s sheet calls)
+  kept calls = kept-all calls (runFrom (freshOn sheet)) kept-fresh
 
 -- THE INSERTED PEEK
 
-module _ (m : Format → Reader → Reading) (s : List ℕ) (st : State) (law : (r : Reader) → Settles (m (st .format) r)) where
-  -- a peek returns the word, so the call after it is by the same reading
-  word-seen : (call : Call) → returned (peeked m s st call) .format ≡ st .format
+module _ (m : Sheet → Reader → Reading) (s : List ℕ) (st : State) (law : (r : Reader) → Settles (m (sheetOf st) r)) where
+  -- a peek returns the sheet, so the call after it is by the same reading
+  word-seen : (call : Call) → sheetOf (returned (peeked m s st call)) ≡ sheetOf st
   unfolding movedTo
-  word-seen call = rw (peeks (m (st .format) (readerOf call)) s st (readerOf call) .moves)
+  word-seen call = rw (peeks (m (sheetOf st) (readerOf call)) s st (readerOf call) .moves)
 
   after-peek : (call : Call)
-      → answerTo m s (returned (peeked m s st call)) call ≡ answerBy (m (st .format)) s (returned (peeked m s st call)) call
-  after-peek call = ap (λ (g : Format). answerBy (m g) s (returned (peeked m s st call)) call) (word-seen call)
+      → answerTo m s (returned (peeked m s st call)) call ≡ answerBy (m (sheetOf st)) s (returned (peeked m s st call)) call
+  after-peek call = ap (λ (g : Sheet). answerBy (m g) s (returned (peeked m s st call)) call) (word-seen call)
 
   -- from an answer after the peek that shows the same and returns the same state
-  changes-nothing : (call : Call) (a : Answered) → answerBy (m (st .format)) s (returned (peeked m s st call)) call ≡ a
+  changes-nothing : (call : Call) (a : Answered) → answerBy (m (sheetOf st)) s (returned (peeked m s st call)) call ≡ a
       → shownIn a ≡ shownIn (answerTo m s st call) → returned a ≡ returned (answerTo m s st call)
       → passedIn (peeked m s st call) + passedIn a ≡ passedIn (answerTo m s st call)
       → PeekChangesNothing m s st call
@@ -105,22 +104,22 @@ module _ (m : Format → Reader → Reading) (s : List ℕ) (st : State) (law : 
   pub peek-changes-nothing : (call : Call) → Preceded m s st call → PeekChangesNothing m s st call
   peek-changes-nothing (peekBy r) never = absurd never
   peek-changes-nothing (takeBy r) allowed =
-      let by = m (st .format) r in
+      let by = m (sheetOf st) r in
       changes-nothing (takeBy r) (takeAnswered r (stilled (nextOf by s st r))) (ap (takeAnswered r) (take-after-peek by (law r) s st r)) refl refl
       (rw (take-passes by (law r) s st r) (add-zero (peekOf by s st r .passed)))
   peek-changes-nothing (readIfBy r set) allowed =
-      let by = m (st .format) r in
+      let by = m (sheetOf st) r in
       changes-nothing (readIfBy r set) (readAnswered r (stilled (readIfOf by s st r set))) (ap (readAnswered r) (read-after-peek by (law r) s st r set)) refl refl
       (rw (read-passes by (law r) s st r set) (add-zero (peekOf by s st r .passed)))
   peek-changes-nothing (zeroSkipBy r) clear =
-      let by = m (st .format) r in
+      let by = m (sheetOf st) r in
       let open-to = skip-clear by (law r) s st r clear in
       changes-nothing (zeroSkipBy r) _ refl
       (zeros-same by (law r) s st r open-to) (state-same by (law r) s st r open-to) (passed-adds by (law r) s st r open-to)
   peek-changes-nothing (blockBy r n) never = absurd never
 
 -- a list of calls goes on from where its first part has come to, and from there by the state alone
-module _ (m : Format → Reader → Reading) (s : List ℕ) where
+module _ (m : Sheet → Reader → Reading) (s : List ℕ) where
   pub run-append : (a b : List Call) (w : Run) → runOf m s w (a ++ b) ≡ runOf m s (runOf m s w a) b
   run-append [] b w = refl
   run-append (call ∷ a) b w = run-append a b (withAnswer w (answerTo m s (w .state) call))
@@ -131,33 +130,33 @@ module _ (m : Format → Reader → Reading) (s : List ℕ) where
       run-state rest (withAnswer v (answerTo m s (v .state) call)) (withAnswer w (answerTo m s (w .state) call))
       (ap (λ (t : State). returned (answerTo m s t call)) same)
 
-module _ (m : Format → Reader → Reading) (s : List ℕ) (f : Format) (law : (r : Reader) → Settles (m f r)) where
-  -- the word of the list is that of the state before the call, so its readings settle there
-  peek-in-list : (before : List Call) (call : Call) → Preceded m s (runFresh m s f before .state) call
-      → PeekChangesNothing m s (runFresh m s f before .state) call
+module _ (m : Sheet → Reader → Reading) (s : List ℕ) (sheet : Sheet) (law : (r : Reader) → Settles (m sheet r)) where
+  -- the sheet of the list is that of the state before the call, so its readings settle there
+  peek-in-list : (before : List Call) (call : Call) → Preceded m s (runFresh m s sheet before .state) call
+      → PeekChangesNothing m s (runFresh m s sheet before .state) call
   peek-in-list before call =
-      peek-changes-nothing m s (runFresh m s f before .state)
-      (λ r. subst (λ (g : Format). Settles (m g r)) (sym (kept m s f before .tallied .word)) (law r)) call
+      peek-changes-nothing m s (runFresh m s sheet before .state)
+      (λ r. subst (λ (g : Sheet). Settles (m g r)) (sym (kept m s sheet before .tallied .word)) (law r)) call
 
-  same-end : (before : List Call) (call : Call) (after : List Call) → Preceded m s (runFresh m s f before .state) call
-      → runFresh m s f (before ++ (peekBy (readerOf call) ∷ call ∷ after)) .state ≡ runFresh m s f (before ++ (call ∷ after)) .state
+  same-end : (before : List Call) (call : Call) (after : List Call) → Preceded m s (runFresh m s sheet before .state) call
+      → runFresh m s sheet (before ++ (peekBy (readerOf call) ∷ call ∷ after)) .state ≡ runFresh m s sheet (before ++ (call ∷ after)) .state
   same-end before call after allowed =
-      rw (run-append m s before (peekBy (readerOf call) ∷ call ∷ after) (runFrom (freshOf f)), run-append m s before (call ∷ after) (runFrom (freshOf f)))
+      rw (run-append m s before (peekBy (readerOf call) ∷ call ∷ after) (runFrom (freshOn sheet)), run-append m s before (call ∷ after) (runFrom (freshOn sheet)))
       (run-state m s after _ _ (peek-in-list before call allowed .state))
 
-  pub byte-tally : (calls : List Call) → ByteTally m s f calls
+  pub byte-tally : (calls : List Call) → ByteTally m s sheet calls
   byte-tally calls =
-      let all = kept m s f calls in
+      let all = kept m s sheet calls in
       record {
         bytes = all .tallied .bytes;
         inside = all .tallied .inside;
         cursor = all .cursor;
         runs = all .tallied .runs;
-        counts = λ r. all .tallied .counts r ∙ agreed (m f) (runFresh m s f calls .history) (all .agree) r;
+        counts = λ r. all .tallied .counts r ∙ agreed (m sheet) (runFresh m s sheet calls .history) (all .agree) r;
         agree = all .agree;
         skips = all .skips;
         peeks = λ before call after e. peek-in-list before call;
         inserted = λ before call after e allowed.
-            same-end before call after allowed ∙ ap (λ (l : List Call). runFresh m s f l .state) (sym e);
+            same-end before call after allowed ∙ ap (λ (l : List Call). runFresh m s sheet l .state) (sym e);
         word = all .word;
       }

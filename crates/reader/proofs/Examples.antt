@@ -13,7 +13,7 @@ use Rattle.reader.specs.declared.state.Reader.the-variants.{Integer}
 use Rattle.reader.specs.declared.state.State.{State}
 use Rattle.reader.specs.Rule.{ruleOf}
 use Rattle.reader.specs.Place.{isSeparator}
-use Rattle.reader.specs.Reading.{flagsOf, syntaxOf, readingWith, readingOf, neighbourOf, mayPass, passedAt}
+use Rattle.reader.specs.Reading.{flagsOf, syntaxOf, syntaxOn, readingWith, readingFor, neighbourOf, mayPass, passedAt}
 use Rattle.reader.specs.State.{freshOf, countOf, movedTo, countedBy}
 use Rattle.reader.specs.Answer.{Outcome}
 use Rattle.reader.specs.Calls.{refusalWith, peeked, peekOf, nextOf}
@@ -89,8 +89,8 @@ examples =
 
 -- the calls by the definitions
 abbrev pub outcomeOfCall : Call → List ℕ → State → Outcome
-outcomeOfCall peek s st = peekOf (readingOf (st .format) Integer) s st Integer
-outcomeOfCall take s st = nextOf (readingOf (st .format) Integer) s st Integer
+outcomeOfCall peek s st = peekOf (readingFor st Integer) s st Integer
+outcomeOfCall take s st = nextOf (readingFor st Integer) s st Integer
 
 abbrev pub shownBy : Outcome → Shown
 shownBy o = record { byte = o .byte; cursor = o .state .cursor; passed = o .passed; count = countOf (o .state) Integer }
@@ -105,5 +105,5 @@ shownFor e (answers shown) = answers (run (e .calls) (e .text) (freshOf (formatW
 shownFor e (check number) = check (fullCheck (formatWith (e .flags)))
 
 pub examples-hold : map (λ (e : Example). shownFor e (e .shows)) examples ≡ map (λ (e : Example). e .shows) examples
-unfolding bit word field flag radixAt digitValue isDigit validControlIn validControl validPunctuation validExponentFlags consecutiveAlone radixLines controlLines flagLines consecutiveLines fullCheck ruleOf isSeparator flagsOf syntaxOf readingWith neighbourOf mayPass passedAt countOf movedTo countedBy refusalWith peeked peekOf nextOf
+unfolding bit word field flag radixAt digitValue isDigit validControlIn validControl validPunctuation validExponentFlags consecutiveAlone radixLines controlLines flagLines consecutiveLines fullCheck ruleOf isSeparator flagsOf syntaxOf syntaxOn readingWith neighbourOf mayPass passedAt countOf movedTo countedBy refusalWith peeked peekOf nextOf
 examples-hold = refl

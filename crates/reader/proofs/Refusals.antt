@@ -7,13 +7,12 @@ use mathlib.Core.List.{List, [], _∷_}
 use Prim.Native.Nat.{ℕ, _≤_}
 use native.Mathlib.Omega.{arith}
 use lib.ListN.{length}
-use Rattle.word.specs.declared.format_flags.Format.{Format}
 use Rattle.word.specs.Check.{line}
 use Rattle.reader.specs.declared.state.Reader.{Reader}
 use Rattle.reader.specs.declared.state.Reader.the-variants.{Integer, Fraction, Exponent, Special}
 use Rattle.reader.specs.declared.state.State.{State}
 use Rattle.reader.specs.Reading.{Reading, isConsecutiveAlone}
-use Rattle.reader.specs.State.{countSum, freshOf}
+use Rattle.reader.specs.State.{Sheet, countSum, freshOn}
 use Rattle.reader.specs.Calls.{lineConsecutive}
 use Rattle.reader.specs.History.{Call, peekBy, takeBy, readIfBy, zeroSkipBy, blockBy, Answered, answerBy, answerTo, numberIn, Run, runFrom, withAnswer, runOf}
 use Rattle.reader.specs.ByteTally.{NeverRefusedBy, runFresh}
@@ -50,19 +49,19 @@ module _ (m : Reader → Reading) (s : List ℕ) (st : State) (own : (r : Reader
     result-or-18 call = ⊎-elim inl (λ keeps. inr (only-special call (numberIn (answerBy m s st call)) (keeps .number))) (result-or-refusal m s st call)
 
 -- so, over a list, no call is refused by another number
-module _ (m : Format → Reader → Reading) (s : List ℕ) (f : Format) (own : (r : Reader) → lineConsecutive (m f r .flags) r ≡ 0)
+module _ (m : Sheet → Reader → Reading) (s : List ℕ) (sheet : Sheet) (own : (r : Reader) → lineConsecutive (m sheet r .flags) r ≡ 0)
     (number : ℕ) (success : 0 ≡ number → ⊥) (special : 18 ≡ number → ⊥)
   where
-    never-on : (calls : List Call) (w : Run) → Kept m s f w → NeverRefusedBy number (w .history) → NeverRefusedBy number (runOf m s w calls .history)
+    never-on : (calls : List Call) (w : Run) → Kept m s sheet w → NeverRefusedBy number (w .history) → NeverRefusedBy number (runOf m s w calls .history)
     never-on [] w so-far never = never
     never-on (call ∷ rest) w so-far never =
         let here = so-far .tallied in
-        let told : (numberIn (answerBy (m f) s (w .state) call) ≡ 0) ⊎ (numberIn (answerBy (m f) s (w .state) call) ≡ 18)
-        = result-or-18 (m f) s (w .state) own (here .inside) (here .sums) call in
+        let told : (numberIn (answerBy (m sheet) s (w .state) call) ≡ 0) ⊎ (numberIn (answerBy (m sheet) s (w .state) call) ≡ 18)
+        = result-or-18 (m sheet) s (w .state) own (here .inside) (here .sums) call in
         let other : numberIn (answerTo m s (w .state) call) ≡ number → ⊥ =
-        subst (λ (a : Answered). numberIn a ≡ number → ⊥) (sym (own-word m s f w so-far call))
+        subst (λ (a : Answered). numberIn a ≡ number → ⊥) (sym (own-word m s sheet w so-far call))
         (λ e. ⊎-elim (λ z. success (sym z ∙ e)) (λ z. special (sym z ∙ e)) told) in
-        never-on rest (withAnswer w (answerTo m s (w .state) call)) (kept-on m s f w so-far call) (never, other)
+        never-on rest (withAnswer w (answerTo m s (w .state) call)) (kept-on m s sheet w so-far call) (never, other)
 
-    pub never-refused-by : (calls : List Call) → NeverRefusedBy number (runFresh m s f calls .history)
-    never-refused-by calls = never-on calls (runFrom (freshOf f)) (kept-fresh m s f) tt
+    pub never-refused-by : (calls : List Call) → NeverRefusedBy number (runFresh m s sheet calls .history)
+    never-refused-by calls = never-on calls (runFrom (freshOn sheet)) (kept-fresh m s sheet) tt

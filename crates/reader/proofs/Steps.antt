@@ -16,7 +16,7 @@ use Rattle.reader.specs.declared.state.State.{State}
 use Rattle.reader.specs.declared.rule.Flags.{Flags}
 use Rattle.reader.specs.Place.{byteAt}
 use Rattle.reader.specs.Reading.{Reading, hasAnyFlag, mayPass}
-use Rattle.reader.specs.State.{countOf, countSum, movedTo, countedBy}
+use Rattle.reader.specs.State.{sheetOf, countOf, countSum, movedTo, countedBy}
 use Rattle.reader.specs.Answer.{Outcome}
 use Rattle.reader.specs.Calls.{refusalWith, peekOf, takenFrom, takeByte, nextOf, readIfOf}
 use Rattle.reader.specs.ZeroSkip.{isZero, raised, zeroReadOf}
@@ -36,7 +36,7 @@ pub record Moves (m : Reader → Reading) (s : List ℕ) (st : State) (e : Step)
   pub counts : (q : Reader) → countOf then q ≡ countOf st q + cond (countsFor q (e .reader)) (worth (m (e .reader)) (e .kind) (e .bytes)) 0
   pub sums : countSum then ≤ countSum st + length (e .bytes)
   pub inside : st .cursor ≤ length s → then .cursor ≤ length s
-  pub word : then .format ≡ st .format
+  pub word : sheetOf then ≡ sheetOf st
 
 -- what is not refused before a step is not refused behind it
 pub moves-clear : (m : Reader → Reading) (s : List ℕ) (st : State) (e : Step) (then : State) → Moves m s st e then
@@ -85,7 +85,7 @@ counted-sum st Fraction = omega arith
 counted-sum st Exponent = omega arith
 counted-sum st Special = omega arith
 
-counted-keeps : (st : State) (r : Reader) → (countedBy st r .cursor ≡ st .cursor) × (countedBy st r .format ≡ st .format)
+counted-keeps : (st : State) (r : Reader) → (countedBy st r .cursor ≡ st .cursor) × (sheetOf (countedBy st r) ≡ sheetOf st)
 unfolding countedBy
 counted-keeps st Integer = (refl, refl)
 counted-keeps st Fraction = (refl, refl)
@@ -97,7 +97,7 @@ record Behind (m : Reader → Reading) (st : State) (r : Reader) (kind : Kind) (
   cursor : then .cursor ≡ st .cursor + 1
   counts : (q : Reader) → countOf then q ≡ countOf st q + cond (countsFor q r) (worth (m r) kind (b ∷ [])) 0
   sums : countSum then ≤ countSum st + 1
-  word : then .format ≡ st .format
+  word : sheetOf then ≡ sheetOf st
 
 module _ (m : Reader → Reading) (st : State) (r : Reader) (b : ℕ) where
   abbrev next : State

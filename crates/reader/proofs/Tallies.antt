@@ -8,11 +8,10 @@ use native.Mathlib.Omega.{arith}
 use lib.Dec.{eqb}
 use lib.ListN.{length, take, drop, replicate}
 use lib.Seq.{take-add, length-take-le}
-use Rattle.word.specs.declared.format_flags.Format.{Format}
 use Rattle.reader.specs.declared.state.Reader.{Reader}
 use Rattle.reader.specs.declared.state.State.{State}
 use Rattle.reader.specs.Reading.{Reading}
-use Rattle.reader.specs.State.{countOf, countSum}
+use Rattle.reader.specs.State.{Sheet, sheetOf, countOf, countSum}
 use Rattle.reader.specs.Answer.{Outcome}
 use Rattle.reader.specs.Repeat.{summed, untilNone}
 use Rattle.reader.specs.ZeroSkip.{zeroReadOf}
@@ -21,23 +20,23 @@ use Rattle.reader.specs.ByteTally.{RunAllowed, RunsAllowed}
 use Rattle.reader.proofs.Steps.{Moves, zero-step, zero-counts}
 
 -- A state with the steps that led to it from a fresh one.
-pub record Tallied (m : Reader → Reading) (s : List ℕ) (f : Format) (st : State) (steps : List Step) : Type 0 where
+pub record Tallied (m : Reader → Reading) (s : List ℕ) (sheet : Sheet) (st : State) (steps : List Step) : Type 0 where
   pub bytes : joined m steps ≡ take (st .cursor) s
   pub runs : RunsAllowed m s steps
   pub counts : (r : Reader) → countOf st r ≡ stepCount m r steps
   pub inside : st .cursor ≤ length s
   pub sums : countSum st ≤ st .cursor
-  pub word : st .format ≡ f
+  pub word : sheetOf st ≡ sheet
 
-module _ (m : Reader → Reading) (s : List ℕ) (f : Format) where
-  module _ (st : State) (steps : List Step) (so-far : Tallied m s f st steps) (e : Step) (then : State) (moves : Moves m s st e then) where
+module _ (m : Reader → Reading) (s : List ℕ) (sheet : Sheet) where
+  module _ (st : State) (steps : List Step) (so-far : Tallied m s sheet st steps) (e : Step) (then : State) (moves : Moves m s st e then) where
     place : length (joined m steps) ≡ st .cursor
     place = ap length (so-far .bytes) ∙ length-take-le (st .cursor) s (so-far .inside)
 
     allowed : 0 < e .passed → RunAllowed m s e steps
     allowed h = record { separators = rw place (moves .only); rule = rw (place, ← so-far .counts (e .reader)) (moves .by-rule h) }
 
-    pub tallied-on : Tallied m s f then (e ∷ steps)
+    pub tallied-on : Tallied m s sheet then (e ∷ steps)
     tallied-on =
         record {
           bytes =
@@ -64,11 +63,11 @@ module _ (m : Reader → Reading) (s : List ℕ) (f : Format) where
 
     -- the state after a first read and those that follow it, with the steps that they add, and the sums of what they took and passed
     pub record Skipping (st : State) (steps : List Step) (rest : List Outcome) : Type 0 where
-      pub tallied : Tallied m s f (summed (call st) rest .state) (zeroSteps r (call st ∷ rest) steps)
+      pub tallied : Tallied m s sheet (summed (call st) rest .state) (zeroSteps r (call st ∷ rest) steps)
       pub cursor : summed (call st) rest .state .cursor ≡ st .cursor + summed (call st) rest .taken + summed (call st) rest .passed
 
-    module _ (st : State) (steps : List Step) (so-far : Tallied m s f st steps) where
-      one : Tallied m s f (call st .state) (stepOf r aZeroRead (call st) ∷ steps)
+    module _ (st : State) (steps : List Step) (so-far : Tallied m s sheet st steps) where
+      one : Tallied m s sheet (call st .state) (stepOf r aZeroRead (call st) ∷ steps)
       one = tallied-on st steps so-far (stepOf r aZeroRead (call st)) (call st .state) (zero-step m s st r)
 
       moved : call st .state .cursor ≡ st .cursor + call st .taken + call st .passed
@@ -82,7 +81,7 @@ module _ (m : Reader → Reading) (s : List ℕ) (f : Format) where
           → Skipping st steps (call (call st .state) ∷ rest)
       more rest then = record { tallied = then .tallied; cursor = omega (arith, moved, then .cursor) }
 
-    pub skipping : (n : ℕ) (st : State) (steps : List Step) → Tallied m s f st steps → Skipping st steps (untilNone n call (call st))
+    pub skipping : (n : ℕ) (st : State) (steps : List Step) → Tallied m s sheet st steps → Skipping st steps (untilNone n call (call st))
     unfolding untilNone
     skipping zero st steps so-far = last st steps so-far
     skipping (suc n) st steps so-far = go (call st .byte) refl (skipping n (call st .state) (stepOf r aZeroRead (call st) ∷ steps) (one st steps so-far)) where

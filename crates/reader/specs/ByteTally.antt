@@ -6,11 +6,10 @@ use mathlib.Core.List.{List, [], _∷_, _++_}
 use mathlib.Core.Option.{some, none}
 use lib.Dec.{eqb}
 use lib.ListN.{length, take, drop, replicate}
-use Rattle.word.specs.declared.format_flags.Format.{Format}
 use Rattle.reader.specs.declared.state.Reader.{Reader}
 use Rattle.reader.specs.declared.state.State.{State}
 use Rattle.reader.specs.Reading.{Reading, mayPass}
-use Rattle.reader.specs.State.{freshOf, countOf}
+use Rattle.reader.specs.State.{Sheet, sheetOf, freshOn, countOf}
 use Rattle.reader.specs.Answer.{Outcome, SkipOutcome}
 use Rattle.reader.specs.History.{Call, peekBy, takeBy, readIfBy, zeroSkipBy, blockBy, Answered, peekAnswered, takeAnswered, readAnswered, skipAnswered, blockAnswered, answerTo, numberIn, takenIn, passedIn, returned, shownIn, Run, runFrom, runOf, totalOf, Step, byteTaken, stepsOf, joined, historyCount, stepCount}
 
@@ -68,10 +67,10 @@ abbrev pub SkipsTold : List Answered → Type 0
 SkipsTold [] = Unit {0}
 SkipsTold (a ∷ earlier) = SkipsTold earlier × AnswerTold a
 
--- every call returned the word unchanged
-abbrev pub WordKept : Format → List Answered → Type 0
-WordKept f [] = Unit {0}
-WordKept f (a ∷ earlier) = WordKept f earlier × (returned a .format ≡ f)
+-- every call returned the word unchanged, and what stands beside it on the sheet
+abbrev pub WordKept : Sheet → List Answered → Type 0
+WordKept sheet [] = Unit {0}
+WordKept sheet (a ∷ earlier) = WordKept sheet earlier × (sheetOf (returned a) ≡ sheet)
 
 -- no call was refused by this number
 abbrev pub NeverRefusedBy : ℕ → List Answered → Type 0
@@ -86,19 +85,19 @@ readerOf (readIfBy r set) = r
 readerOf (zeroSkipBy r) = r
 readerOf (blockBy r n) = r
 
-abbrev pub Preceded : (Format → Reader → Reading) → List ℕ → State → Call → Type 0
+abbrev pub Preceded : (Sheet → Reader → Reading) → List ℕ → State → Call → Type 0
 Preceded m s st (peekBy r) = ⊥
 Preceded m s st (takeBy r) = Unit {0}
 Preceded m s st (readIfBy r set) = Unit {0}
 Preceded m s st (zeroSkipBy r) = numberIn (answerTo m s st (zeroSkipBy r)) ≡ 0
 Preceded m s st (blockBy r n) = ⊥
 
-abbrev pub peeked : (Format → Reader → Reading) → List ℕ → State → Call → Answered
+abbrev pub peeked : (Sheet → Reader → Reading) → List ℕ → State → Call → Answered
 peeked m s st call = answerTo m s st (peekBy (readerOf call))
 
 -- What the call answers from the state that the peek returned, beside what it answers without the peek: the same byte or number of
 -- zeros, and the same state, so that the rest of the list goes on the same. The two passed counts add up to the one without.
-pub record PeekChangesNothing (m : Format → Reader → Reading) (s : List ℕ) (st : State) (call : Call) : Type 0 where
+pub record PeekChangesNothing (m : Sheet → Reader → Reading) (s : List ℕ) (st : State) (call : Call) : Type 0 where
   pub shown : shownIn (answerTo m s (returned (peeked m s st call)) call) ≡ shownIn (answerTo m s st call)
   pub state : returned (answerTo m s (returned (peeked m s st call)) call) ≡ returned (answerTo m s st call)
   pub rest :
@@ -108,38 +107,38 @@ pub record PeekChangesNothing (m : Format → Reader → Reading) (s : List ℕ)
   pub passed :
       passedIn (peeked m s st call) + passedIn (answerTo m s (returned (peeked m s st call)) call) ≡ passedIn (answerTo m s st call)
 
--- where a list of calls has come to, from a fresh cursor with the word f
-abbrev pub runFresh : (Format → Reader → Reading) → List ℕ → Format → List Call → Run
-runFresh m s f calls = runOf m s (runFrom (freshOf f)) calls
+-- where a list of calls has come to, from a fresh cursor on the sheet
+abbrev pub runFresh : (Sheet → Reader → Reading) → List ℕ → Sheet → List Call → Run
+runFresh m s sheet calls = runOf m s (runFrom (freshOn sheet)) calls
 
-pub record ByteTally (m : Format → Reader → Reading) (s : List ℕ) (f : Format) (calls : List Call) : Type 0 where
+pub record ByteTally (m : Sheet → Reader → Reading) (s : List ℕ) (sheet : Sheet) (calls : List Call) : Type 0 where
   -- the separators passed and the bytes taken, joined in the order of the calls, are the bytes before the cursor
-  pub bytes : joined (m f) (stepsOf (runFresh m s f calls .history)) ≡ take (runFresh m s f calls .state .cursor) s
+  pub bytes : joined (m sheet) (stepsOf (runFresh m s sheet calls .history)) ≡ take (runFresh m s sheet calls .state .cursor) s
   -- which is within the buffer, so these are as many as its number says
-  pub inside : runFresh m s f calls .state .cursor ≤ length s
+  pub inside : runFresh m s sheet calls .state .cursor ≤ length s
   -- cursor = taken + passed, summed from the counts the calls returned
   pub cursor :
-      runFresh m s f calls .state .cursor
-      ≡ totalOf takenIn (runFresh m s f calls .history) + totalOf passedIn (runFresh m s f calls .history)
+      runFresh m s sheet calls .state .cursor
+      ≡ totalOf takenIn (runFresh m s sheet calls .history) + totalOf passedIn (runFresh m s sheet calls .history)
   -- each passed run is separators only and began where document 01 lets that reader pass
-  pub runs : RunsAllowed (m f) s (stepsOf (runFresh m s f calls .history))
+  pub runs : RunsAllowed (m sheet) s (stepsOf (runFresh m s sheet calls .history))
   -- each of the digit counts equals document 01's count of the history for its reader
-  pub counts : (r : Reader) → countOf (runFresh m s f calls .state) r ≡ historyCount (m f) r (runFresh m s f calls .history)
+  pub counts : (r : Reader) → countOf (runFresh m s sheet calls .state) r ≡ historyCount (m sheet) r (runFresh m s sheet calls .history)
   -- which, after each call, is the count by which the runs are first or later
-  pub agree : CountsAgree (m f) (runFresh m s f calls .history)
+  pub agree : CountsAgree (m sheet) (runFresh m s sheet calls .history)
   -- each zero skip that is not refused answers how many of its reads took a byte, a `0` each; its last read, and no other, took none
-  pub skips : SkipsTold (runFresh m s f calls .history)
+  pub skips : SkipsTold (runFresh m s sheet calls .history)
   -- a peek put into the list just before a take, conditional read or unrefused zero skip by the same reader changes nothing
   pub peeks :
       (before : List Call) (call : Call) (after : List Call) →
       calls ≡ before ++ (call ∷ after) →
-      Preceded m s (runFresh m s f before .state) call →
-      PeekChangesNothing m s (runFresh m s f before .state) call
+      Preceded m s (runFresh m s sheet before .state) call →
+      PeekChangesNothing m s (runFresh m s sheet before .state) call
   -- nor does it change where the list comes to
   pub inserted :
       (before : List Call) (call : Call) (after : List Call) →
       calls ≡ before ++ (call ∷ after) →
-      Preceded m s (runFresh m s f before .state) call →
-      runFresh m s f (before ++ (peekBy (readerOf call) ∷ call ∷ after)) .state ≡ runFresh m s f calls .state
-  -- every call returns the word unchanged
-  pub word : WordKept f (runFresh m s f calls .history)
+      Preceded m s (runFresh m s sheet before .state) call →
+      runFresh m s sheet (before ++ (peekBy (readerOf call) ∷ call ∷ after)) .state ≡ runFresh m s sheet calls .state
+  -- every call returns the word unchanged, and what stands beside it on the sheet
+  pub word : WordKept sheet (runFresh m s sheet calls .history)

@@ -11,7 +11,7 @@ use Rattle.reader.specs.declared.state.Reader.{Reader}
 use Rattle.reader.specs.declared.state.State.{State}
 use Rattle.reader.specs.declared.bytes.Bytes.{Bytes}
 use Rattle.reader.specs.State.{freshOf}
-use Rattle.reader.specs.Reading.{readingOf}
+use Rattle.reader.specs.Reading.{readingOf, readingFor}
 use Rattle.reader.specs.Answer.{Outcome, SkipOutcome, BlockOutcome, CountOutcome}
 use Rattle.reader.specs.Calls.{peekOf, nextOf, nextAllOf, readIfOf, currentCountOf}
 use Rattle.reader.specs.ZeroSkip.{skipZerosOf}
@@ -30,28 +30,28 @@ unfoldable pub restOf : List ℕ → State → List ℕ
 restOf s st = drop (st .cursor) s
 
 abbrev pub peekBytes : Bytes → Reader → Outcome
-peekBytes b r = peekOf (readingOf (b .state .format) r) (now (b .slc)) (b .state) r
+peekBytes b r = peekOf (readingFor (b .state) r) (now (b .slc)) (b .state) r
 
 abbrev pub nextBytes : Bytes → Reader → Outcome
-nextBytes b r = nextOf (readingOf (b .state .format) r) (now (b .slc)) (b .state) r
+nextBytes b r = nextOf (readingFor (b .state) r) (now (b .slc)) (b .state) r
 
 abbrev pub nextAllBytes : Bytes → Reader → Outcome
-nextAllBytes b r = nextAllOf (readingOf (b .state .format) r) (now (b .slc)) (b .state) r
+nextAllBytes b r = nextAllOf (readingFor (b .state) r) (now (b .slc)) (b .state) r
 
 abbrev pub countBytes : Bytes → Reader → CountOutcome
-countBytes b r = currentCountOf (readingOf (b .state .format) r) (now (b .slc)) (b .state) r
+countBytes b r = currentCountOf (readingFor (b .state) r) (now (b .slc)) (b .state) r
 
 abbrev pub partBytes : Bytes → Reader → ℕ → List ℕ
-partBytes b r n = takeNPart (readingOf (b .state .format) r) (now (b .slc)) (b .state) r n
+partBytes b r n = takeNPart (readingFor (b .state) r) (now (b .slc)) (b .state) r n
 
 abbrev pub skipBytes : Bytes → Reader → SkipOutcome
-skipBytes b r = skipZerosOf (readingOf (b .state .format) r) (now (b .slc)) (b .state) r
+skipBytes b r = skipZerosOf (readingFor (b .state) r) (now (b .slc)) (b .state) r
 
 abbrev pub readBytes : Bytes → Reader → ByteSet → Outcome
-readBytes b r set = readIfOf (readingOf (b .state .format) r) (now (b .slc)) (b .state) r (member set)
+readBytes b r set = readIfOf (readingFor (b .state) r) (now (b .slc)) (b .state) r (member set)
 
 abbrev pub takeNBytes : Bytes → Reader → ℕ → BlockOutcome
-takeNBytes b r n = takeNOf (readingOf (b .state .format) r) (now (b .slc)) (b .state) r n
+takeNBytes b r n = takeNOf (readingFor (b .state) r) (now (b .slc)) (b .state) r n
 
 -- takes to the end of a buffer, from a fresh state
 abbrev pub wholeOutcome : List ℕ → Format → Reader → Outcome

@@ -7,11 +7,10 @@ use mathlib.Core.List.{List, [], _∷_, _++_}
 use mathlib.Core.Option.{Option, some, none}
 use lib.Dec.{eqb}
 use lib.ListN.{length, replicate}
-use Rattle.word.specs.declared.format_flags.Format.{Format}
 use Rattle.reader.specs.declared.state.Reader.{Reader}
 use Rattle.reader.specs.declared.state.State.{State}
 use Rattle.reader.specs.Reading.{Reading, hasAnyFlag}
-use Rattle.reader.specs.State.{freshOf, isCounted, readerNumber}
+use Rattle.reader.specs.State.{Sheet, sheetOf, isCounted, readerNumber}
 use Rattle.reader.specs.Answer.{Outcome, SkipOutcome, BlockOutcome}
 use Rattle.reader.specs.Calls.{peekOf, nextOf, readIfOf}
 use Rattle.reader.specs.ZeroSkip.{zeroReadsOf, skipZerosOf}
@@ -37,7 +36,7 @@ pub data Answered : Type 0 where
 abbrev pub readsMade : Reading → List ℕ → State → Reader → List Outcome
 readsMade m s st r = cond (eqb (skipZerosOf m s st r .refusal) 0) (zeroReadsOf m s st r) []
 
--- What a call answers from a state. `m` says what a word means to each reader.
+-- What a call answers from a state. `m` says what a sheet means to each reader.
 abbrev pub answerBy : (Reader → Reading) → List ℕ → State → Call → Answered
 answerBy m s st (peekBy r) = peekAnswered r (peekOf (m r) s st r)
 answerBy m s st (takeBy r) = takeAnswered r (nextOf (m r) s st r)
@@ -45,9 +44,9 @@ answerBy m s st (readIfBy r set) = readAnswered r (readIfOf (m r) s st r set)
 answerBy m s st (zeroSkipBy r) = skipAnswered r (skipZerosOf (m r) s st r) (readsMade (m r) s st r)
 answerBy m s st (blockBy r n) = blockAnswered r (takeNOf (m r) s st r n) (takeNPart (m r) s st r n)
 
--- The word is the state's own.
-abbrev pub answerTo : (Format → Reader → Reading) → List ℕ → State → Call → Answered
-answerTo m s st call = answerBy (m (st .format)) s st call
+-- The sheet is the state's own.
+abbrev pub answerTo : (Sheet → Reader → Reading) → List ℕ → State → Call → Answered
+answerTo m s st call = answerBy (m (sheetOf st)) s st call
 
 -- an answer's own parts: the refusal's number or 0, taken, passed, and the state returned
 abbrev pub numberIn : Answered → ℕ
@@ -107,7 +106,7 @@ runFrom st = record { state = st; history = [] }
 abbrev pub withAnswer : Run → Answered → Run
 withAnswer w a = record { state = returned a; history = a ∷ w .history }
 
-abbrev pub runOf : (Format → Reader → Reading) → List ℕ → Run → List Call → Run
+abbrev pub runOf : (Sheet → Reader → Reading) → List ℕ → Run → List Call → Run
 runOf m s w [] = w
 runOf m s w (call ∷ rest) = runOf m s (withAnswer w (answerTo m s (w .state) call)) rest
 

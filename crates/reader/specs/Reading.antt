@@ -9,10 +9,12 @@ use Rattle.word.specs.Word.{flag, digitSeparator, mantissaRadix}
 use Rattle.word.specs.Digit.{isDigit}
 use Rattle.reader.specs.declared.state.Reader.{Reader}
 use Rattle.reader.specs.declared.state.Reader.the-variants.{Integer, Fraction, Exponent, Special}
+use Rattle.reader.specs.declared.state.State.{State}
 use Rattle.reader.specs.declared.rule.Flags.{Flags}
 use Rattle.reader.specs.declared.rule.Neighbour.{Neighbour}
 use Rattle.reader.specs.declared.passing.Syntax.{Syntax}
 use Rattle.reader.specs.Rule.{ruleOf}
+use Rattle.reader.specs.State.{Sheet, sheetOf}
 use Rattle.reader.specs.Place.{isSeparator, byteAt, before, after, separatorRun, nearest}
 
 -- The flags of a counted reader, by its index: I, L, T and C from bits 32, 35, 38 and 41 on.
@@ -44,6 +46,19 @@ readingWith x =
 -- the reading of document 01
 abbrev pub readingOf : Format → Reader → Reading
 readingOf f r = readingWith (syntaxOf f r)
+
+-- What a sheet says to one reader, and so a state: calls given a state read by it, calls given a word alone by the word.
+unfoldable pub syntaxOn : Sheet → Reader → Syntax
+syntaxOn sheet r = syntaxOf (sheet .format) r
+
+abbrev pub readingOn : Sheet → Reader → Reading
+readingOn sheet r = readingWith (syntaxOn sheet r)
+
+abbrev pub syntaxFor : State → Reader → Syntax
+syntaxFor st r = syntaxOn (sheetOf st) r
+
+abbrev pub readingFor : State → Reader → Reading
+readingFor st r = readingOn (sheetOf st) r
 
 abbrev pub hasAnyFlag : Flags → Bool
 hasAnyFlag f = f .internal || f .leading || f .trailing || f .consecutive

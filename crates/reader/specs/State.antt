@@ -10,9 +10,24 @@ use Rattle.reader.specs.declared.state.Named.{Named}
 use Rattle.reader.specs.declared.state.Named.the-variants as named
 use Rattle.reader.specs.declared.state.State.{State}
 
+-- What of a state says how it is read, by every reader. No call changes it.
+pub record Sheet : Type 0 where
+  pub format : Format
+
+abbrev pub sheetOf : State → Sheet
+sheetOf st = record { format = st .format }
+
+-- the sheet of a word with nothing beside it
+abbrev pub sheetWith : Format → Sheet
+sheetWith f = record { format = f }
+
 -- "Fresh": cursor and three counts 0
+abbrev pub freshOn : Sheet → State
+freshOn sheet =
+    record { format = sheet .format; cursor = 0; integer = record { 0 = 0 }; fraction = record { 0 = 0 }; exponent = record { 0 = 0 } }
+
 abbrev pub freshOf : Format → State
-freshOf f = record { format = f; cursor = 0; integer = record { 0 = 0 }; fraction = record { 0 = 0 }; exponent = record { 0 = 0 } }
+freshOf f = freshOn (sheetWith f)
 
 -- "Readers: integer 0, fraction 1, exponent 2, special 3."
 abbrev pub readerNumber : Reader → ℕ

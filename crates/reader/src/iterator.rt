@@ -5,13 +5,13 @@ ghost use Prim.Native.Nat.{_+_, _≤_};
 ghost use lib.Dec.{eqb, ltb};
 ghost use lib.ListN.{length, getD};
 ghost use Rattle.word.specs.ByteSet.{member};
-ghost use Rattle.reader.specs.Reading.{readingWith, readingOf, passedAt};
+ghost use Rattle.reader.specs.Reading.{readingWith, readingFor, passedAt};
 ghost use Rattle.reader.specs.Answer.{readOutcomeOf, skipOutcomeOf};
 ghost use Rattle.reader.specs.Calls.{readIfOf};
 ghost use Rattle.reader.specs.ZeroSkip.{isZero, skipRefusal, skipZerosOf};
 use crate::passing::Syntax;
 use crate::passing::landing;
-use crate::passing::syntax_of;
+use crate::passing::syntax_for;
 use crate::skip::Looked;
 use crate::skip::look;
 use crate::state::Admission;
@@ -89,15 +89,15 @@ fn read_in(s: &[u8], state: State, syntax: Syntax, reader: Reader, set: ByteSet)
 
 // Takes the byte under the cursor, uncounted, where it is in the set. Where it is not, the passing stays all the same.
 pub fn read_if(s: &[u8], state: State, reader: Reader, set: ByteSet) -> ReadAnswer
-    ensures { λ r. ⌜ readOutcomeOf r ≡ readIfOf (readingOf (state .format) reader) (now (s .entry)) state reader (member set) ⌝ }
+    ensures { λ r. ⌜ readOutcomeOf r ≡ readIfOf (readingFor state reader) (now (s .entry)) state reader (member set) ⌝ }
 {
-    let syntax = syntax_of(state.format, reader);
+    let syntax = syntax_for(state, reader);
     read_in(s, state, syntax, reader, set)
 }
 
 // The same for one byte.
 pub fn read_if_value_cased(s: &[u8], state: State, reader: Reader, value: u8) -> ReadAnswer
-    ensures { λ r. ⌜ readOutcomeOf r ≡ readIfOf (readingOf (state .format) reader) (now (s .entry)) state reader (λ b. eqb b value) ⌝ }
+    ensures { λ r. ⌜ readOutcomeOf r ≡ readIfOf (readingFor state reader) (now (s .entry)) state reader (λ b. eqb b value) ⌝ }
 {
     let set = ByteSet::from_byte(value);
     read_if(s, state, reader, set)
@@ -188,8 +188,8 @@ fn skip_zeros_in(s: &[u8], state: State, syntax: Syntax, reader: Reader) -> Skip
 
 // Takes the zeros under the cursor, each of which raises the reader's count, until a read of one fails.
 pub fn skip_zeros(s: &[u8], state: State, reader: Reader) -> SkipAnswer
-    ensures { λ r. ⌜ skipOutcomeOf r ≡ skipZerosOf (readingOf (state .format) reader) (now (s .entry)) state reader ⌝ }
+    ensures { λ r. ⌜ skipOutcomeOf r ≡ skipZerosOf (readingFor state reader) (now (s .entry)) state reader ⌝ }
 {
-    let syntax = syntax_of(state.format, reader);
+    let syntax = syntax_for(state, reader);
     skip_zeros_in(s, state, syntax, reader)
 }

@@ -8,12 +8,13 @@ ghost use Rattle.word.specs.Word.{mantissaRadix};
 ghost use Rattle.reader.specs.Rule.{ruleOf};
 ghost use Rattle.reader.specs.RuleData.{IsLater};
 ghost use Rattle.reader.specs.Place.{byteAt, before, after, firstOther, separatorRun, nearest};
-ghost use Rattle.reader.specs.Reading.{flagsOf, syntaxOf, readingWith, neighbourOf, previous, following, passedAt};
+ghost use Rattle.reader.specs.Reading.{flagsOf, syntaxOf, syntaxFor, readingWith, neighbourOf, previous, following, passedAt};
 use crate::rule;
 use crate::rule::Flags;
 use crate::rule::Later;
 use crate::rule::Neighbour;
 use crate::state::Reader;
+use crate::state::State;
 use word::digit::char_is_digit_by_range;
 use word::format_flags::Format;
 
@@ -75,6 +76,13 @@ pub(crate) fn syntax_of(format: Format, reader: Reader) -> Syntax
         radix: radix_of(format),
         flags,
     }
+}
+
+// What a state says to one reader.
+pub(crate) fn syntax_for(state: State, reader: Reader) -> Syntax
+    ensures { λ r. ⌜ r ≡ syntaxFor state reader ⌝ }
+{
+    syntax_of(state.format, reader)
 }
 
 // Beyond either end there is no byte.

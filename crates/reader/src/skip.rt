@@ -7,16 +7,15 @@ ghost use lib.ListN.{length};
 ghost use Rattle.word.specs.Digit.{isDigit};
 ghost use Rattle.word.specs.Word.{digitSeparator, mantissaRadix};
 ghost use Rattle.reader.specs.Place.{isSeparator};
-ghost use Rattle.reader.specs.Reading.{syntaxOf, readingWith, readingOf, hasAnyFlag};
+ghost use Rattle.reader.specs.Reading.{readingWith, readingFor, hasAnyFlag};
 ghost use Rattle.reader.specs.State.{countOf, countSum};
 ghost use Rattle.reader.specs.Answer.{lookOutcome, LookFits, runOutcome, outcomeOf, countOutcomeOf, blockOutcomeOf};
 ghost use Rattle.reader.specs.Calls.{peekOf, nextOf, nextAllOf, takenFrom, shownCount, currentCountOf, peeked, refusalWith};
 ghost use Rattle.reader.specs.Block.{blockFrom, takeNOf, takeNPart};
 use crate::passing::Syntax;
-use crate::passing::flags_of;
 use crate::passing::landing;
 use crate::passing::separator_landing;
-use crate::passing::syntax_of;
+use crate::passing::syntax_for;
 use crate::rule::Flags;
 use crate::rule::later_rule;
 use crate::state::Admission;
@@ -156,9 +155,9 @@ fn peek_in(s: &[u8], state: State, syntax: Syntax, reader: Reader) -> Answer
 
 // The byte under the cursor, after passing what the reader may pass.
 pub fn peek(s: &[u8], state: State, reader: Reader) -> Answer
-    ensures { λ r. ⌜ outcomeOf r ≡ peekOf (readingOf (state .format) reader) (now (s .entry)) state reader ⌝ }
+    ensures { λ r. ⌜ outcomeOf r ≡ peekOf (readingFor state reader) (now (s .entry)) state reader ⌝ }
 {
-    let syntax = syntax_of(state.format, reader);
+    let syntax = syntax_for(state, reader);
     peek_in(s, state, syntax, reader)
 }
 
@@ -194,9 +193,9 @@ fn next_in(s: &[u8], state: State, syntax: Syntax, reader: Reader) -> Answer
 
 // Takes the byte under the cursor, after passing what the reader may pass.
 pub fn next(s: &[u8], state: State, reader: Reader) -> Answer
-    ensures { λ r. ⌜ outcomeOf r ≡ nextOf (readingOf (state .format) reader) (now (s .entry)) state reader ⌝ }
+    ensures { λ r. ⌜ outcomeOf r ≡ nextOf (readingFor state reader) (now (s .entry)) state reader ⌝ }
 {
-    let syntax = syntax_of(state.format, reader);
+    let syntax = syntax_for(state, reader);
     next_in(s, state, syntax, reader)
 }
 
@@ -283,9 +282,9 @@ fn next_all_in(s: &[u8], state: State, syntax: Syntax, reader: Reader) -> Answer
 
 // Takes to the end of the buffer in one call.
 pub fn next_all(s: &[u8], state: State, reader: Reader) -> Answer
-    ensures { λ r. ⌜ outcomeOf r ≡ nextAllOf (readingOf (state .format) reader) (now (s .entry)) state reader ⌝ }
+    ensures { λ r. ⌜ outcomeOf r ≡ nextAllOf (readingFor state reader) (now (s .entry)) state reader ⌝ }
 {
-    let syntax = syntax_of(state.format, reader);
+    let syntax = syntax_for(state, reader);
     next_all_in(s, state, syntax, reader)
 }
 
@@ -319,15 +318,11 @@ fn shown_count(state: State, syntax: Syntax, reader: Reader) -> usize
 
 // How many digits the reader has counted, as the crate shows it.
 pub fn current_count(s: &[u8], state: State, reader: Reader) -> Count
-    ensures { λ r. ⌜ countOutcomeOf r ≡ currentCountOf (readingOf (state .format) reader) (now (s .entry)) state reader ⌝ }
+    ensures { λ r. ⌜ countOutcomeOf r ≡ currentCountOf (readingFor state reader) (now (s .entry)) state reader ⌝ }
 {
     let admitted = admit_place(s, state);
     match admitted {
-        Admission::Admitted => Count::Shown(shown_count(
-            state,
-            syntax_of(state.format, reader),
-            reader,
-        )),
+        Admission::Admitted => Count::Shown(shown_count(state, syntax_for(state, reader), reader)),
         Admission::Refused(refusal) => Count::Refused(refusal),
     }
 }
@@ -367,18 +362,18 @@ fn block_from(s: &[u8], state: State, flags: Flags, n: usize) -> BlockAnswer
 
 // Takes up to n bytes at once, by a reader without flags; one with any flag answers none and stays.
 pub fn take_n(s: &[u8], state: State, reader: Reader, n: usize) -> BlockAnswer
-    ensures { λ r. ⌜ blockOutcomeOf r ≡ takeNOf (readingOf (state .format) reader) (now (s .entry)) state reader n ⌝ }
+    ensures { λ r. ⌜ blockOutcomeOf r ≡ takeNOf (readingFor state reader) (now (s .entry)) state reader n ⌝ }
 {
     let admitted = admit_block(s, state, reader);
     match admitted {
-        Admission::Admitted => block_from(s, state, flags_of(state.format, reader), n),
+        Admission::Admitted => block_from(s, state, syntax_for(state, reader).flags, n),
         Admission::Refused(refusal) => block_answered(Block::Refused(refusal), 0, state),
     }
 }
 
 // The part of the buffer that `take_n` takes, for the same arguments; empty for none or a refusal.
 pub fn take_n_part(s: &[u8], state: State, reader: Reader, n: usize) -> &[u8]
-    ensures { λ r. ⌜ now r ≡ takeNPart (readingOf (state .format) reader) (now (s .entry)) state reader n ⌝ }
+    ensures { λ r. ⌜ now r ≡ takeNPart (readingFor state reader) (now (s .entry)) state reader n ⌝ }
 {
     let answer = take_n(s, state, reader, n);
     let told = answer.told;

@@ -8,7 +8,7 @@ use Rattle.word.specs.Digit.{digitValue, isDigit}
 use Rattle.word.specs.Check.{validControlIn, validControl, validPunctuation, validExponentFlags, consecutiveAlone, radixLines, controlLines, flagLines, consecutiveLines, fullCheck}
 use Rattle.reader.specs.Rule.{ruleOf}
 use Rattle.reader.specs.Place.{isSeparator}
-use Rattle.reader.specs.Reading.{flagsOf, syntaxOf, readingWith, neighbourOf, mayPass, passedAt}
+use Rattle.reader.specs.Reading.{flagsOf, syntaxOf, syntaxOn, readingWith, neighbourOf, mayPass, passedAt}
 use Rattle.reader.specs.State.{readerNamed, countOf, movedTo, countedBy}
 use Rattle.reader.specs.Calls.{refusalWith, peeked, peekOf, nextOf}
 use Rattle.script.specs.Decimal.{decimal}
@@ -33,5 +33,5 @@ printed =
     ∷ 0x32 ∷ 32 ∷ 0x2D ∷ 32 ∷ 0x33 ∷ 32 ∷ 0x30 ∷ 32 ∷ 0x30 ∷ 10 ∷ []
 
 pub example-prints : outputOf example ≡ printed
-unfolding bit word field flag radixAt digitValue isDigit validControlIn validControl validPunctuation validExponentFlags consecutiveAlone radixLines controlLines flagLines consecutiveLines fullCheck ruleOf isSeparator flagsOf syntaxOf readingWith neighbourOf mayPass passedAt readerNamed countOf movedTo countedBy refusalWith peeked peekOf nextOf decimal kindOf recordAt outcomeReply replyOf replyLine callResponse responseAt outputOf
+unfolding bit word field flag radixAt digitValue isDigit validControlIn validControl validPunctuation validExponentFlags consecutiveAlone radixLines controlLines flagLines consecutiveLines fullCheck ruleOf isSeparator flagsOf syntaxOf syntaxOn readingWith neighbourOf mayPass passedAt readerNamed countOf movedTo countedBy refusalWith peeked peekOf nextOf decimal kindOf recordAt outcomeReply replyOf replyLine callResponse responseAt outputOf
 example-prints = refl

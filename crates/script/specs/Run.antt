@@ -11,7 +11,7 @@ use Rattle.word.specs.Check.{fullCheck}
 use Rattle.reader.specs.declared.state.Reader.{Reader}
 use Rattle.reader.specs.declared.state.State.{State}
 use Rattle.reader.specs.State.{freshOf, readerNamed}
-use Rattle.reader.specs.Reading.{readingOf}
+use Rattle.reader.specs.Reading.{readingOn}
 use Rattle.reader.specs.History.{answerTo}
 use Rattle.script.specs.declared.record.Call.{Call}
 use Rattle.script.specs.declared.record.Record.{Record}
@@ -79,7 +79,7 @@ abbrev pub answerCall : List ℕ → Call → Reply → Response
 answerCall text call reply = record { line = replyLine (callNumber call) reply; run = opened text (reply .state) }
 
 unfoldable pub callResponse : List ℕ → State → Reader → Call → Response
-callResponse text st r call = answerCall text call (replyOf (answerTo readingOf text st (callBy call r)))
+callResponse text st r call = answerCall text call (replyOf (answerTo readingOn text st (callBy call r)))
 
 -- a reader byte above 3 is refused before the turn is asked
 abbrev pub gatheringCall : Option Reader → Response

@@ -2,7 +2,7 @@
 ghost use mathlib.Core.Path.{_≡_};
 ghost use Rattle.reader.specs.Answer.{seenNumber, seenByte, readNumber, readByte, skipNumber, skipZeros, blockNumber, blockBytes};
 ghost use Rattle.reader.specs.Answer.{outcomeOf, readOutcomeOf, skipOutcomeOf, blockOutcomeOf};
-ghost use Rattle.reader.specs.Reading.{readingOf};
+ghost use Rattle.reader.specs.Reading.{readingOn};
 ghost use Rattle.reader.specs.History.{answerTo};
 ghost use Rattle.script.specs.Reply.{callBy, callNumber, orRefused, numberShown, blockShown, outcomeReply, skipReply, blockReply, replyOf};
 use crate::record::Call;
@@ -126,7 +126,7 @@ fn block_reply(a: BlockAnswer) -> Reply
 
 // Makes the call, as the word of the state says.
 pub fn made(text: &[u8], state: State, who: Reader, call: Call) -> Reply
-    ensures { λ r. ⌜ r ≡ replyOf (answerTo readingOf (now (text .entry)) state (callBy call who)) ⌝ }
+    ensures { λ r. ⌜ r ≡ replyOf (answerTo readingOn (now (text .entry)) state (callBy call who)) ⌝ }
 {
     match call {
         Call::Peek => seen_reply(peek(text, state, who)),

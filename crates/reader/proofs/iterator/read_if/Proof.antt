@@ -8,8 +8,8 @@ use borrow.Author.Needs.{needs}
 use Rattle.reader.proofs.iterator.read_if.Statement.{statement}
 use Rattle.reader.proofs.iterator.read_if.Tie as tie
 
-syntax-of-requires : tie.Need-syntax-of-requires
-syntax-of-requires c κs = search needs
+syntax-for-requires : tie.Need-syntax-for-requires
+syntax-for-requires c κs = search needs
 
 read-in-requires : tie.Need-read-in-requires
 read-in-requires c κs = search needs
@@ -18,7 +18,7 @@ returns : tie.Need-returns
 returns c =
     let x = c .before in
     let a = x .before .before .args in
-    c .read-in .ensures ∙ ap (λ (y : Syntax). readIfOf (readingWith y) (a .s .now) (a .state) (a .reader) (member (a .set))) (x .syntax-of .ensures)
+    c .read-in .ensures ∙ ap (λ (y : Syntax). readIfOf (readingWith y) (a .s .now) (a .state) (a .reader) (member (a .set))) (x .syntax-for .ensures)
 
 pub read-if-spec : {M : Type 1} → statement M
-read-if-spec = tie.close (tie.spec syntax-of-requires read-in-requires returns)
+read-if-spec = tie.close (tie.spec syntax-for-requires read-in-requires returns)

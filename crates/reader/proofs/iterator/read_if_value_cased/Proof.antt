@@ -3,7 +3,7 @@ use mathlib.Core.Path.{_∙_}
 use native.Mathlib.Omega.{arith}
 use lib.Dec.{eqb}
 use Rattle.word.specs.ByteSet.{member}
-use Rattle.reader.specs.Reading.{readingOf}
+use Rattle.reader.specs.Reading.{readingFor}
 use Rattle.reader.proofs.Sets.{reads-alike}
 use borrow.Author.Needs.{needs}
 use Rattle.reader.proofs.iterator.read_if_value_cased.Statement.{statement}
@@ -22,7 +22,7 @@ returns c =
     let a = k .before .args in
     c .read-if .ensures
     ∙ reads-alike (a .s .now) (λ i h. omega (arith, k .shared-slice-known .given i)) (member (b .from-byte .result)) (λ x. eqb x (a .value)) (b .from-byte .ensures)
-    (readingOf (a .state .format) (a .reader)) (a .state) (a .reader)
+    (readingFor (a .state) (a .reader)) (a .state) (a .reader)
 
 pub read-if-value-cased-spec : {M : Type 1} → statement M
 read-if-value-cased-spec = tie.close (tie.spec from-byte-requires read-if-requires returns)

@@ -7,8 +7,8 @@ use borrow.Author.Needs.{needs}
 use Rattle.reader.proofs.iterator.skip_zeros.Statement.{statement}
 use Rattle.reader.proofs.iterator.skip_zeros.Tie as tie
 
-syntax-of-requires : tie.Need-syntax-of-requires
-syntax-of-requires c κs = search needs
+syntax-for-requires : tie.Need-syntax-for-requires
+syntax-for-requires c κs = search needs
 
 skip-zeros-in-requires : tie.Need-skip-zeros-in-requires
 skip-zeros-in-requires c κs = search needs
@@ -17,7 +17,7 @@ returns : tie.Need-returns
 returns c =
     let x = c .before in
     let a = x .before .before .args in
-    c .skip-zeros-in .ensures ∙ ap (λ (y : Syntax). skipZerosOf (readingWith y) (a .s .now) (a .state) (a .reader)) (x .syntax-of .ensures)
+    c .skip-zeros-in .ensures ∙ ap (λ (y : Syntax). skipZerosOf (readingWith y) (a .s .now) (a .state) (a .reader)) (x .syntax-for .ensures)
 
 pub skip-zeros-spec : {M : Type 1} → statement M
-skip-zeros-spec = tie.close (tie.spec syntax-of-requires skip-zeros-in-requires returns)
+skip-zeros-spec = tie.close (tie.spec syntax-for-requires skip-zeros-in-requires returns)

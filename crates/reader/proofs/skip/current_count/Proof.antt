@@ -15,8 +15,8 @@ admit-place-requires c κs = search needs
 enum-told : tie.Need-enum-told
 enum-told c = search needs
 
-syntax-of-requires : tie.Need-syntax-of-requires
-syntax-of-requires c κs = search needs
+syntax-for-requires : tie.Need-syntax-for-requires
+syntax-for-requires c κs = search needs
 
 shown-count-requires : tie.Need-shown-count-requires
 shown-count-requires c κs =
@@ -36,7 +36,7 @@ returns c =
     let d = b .before .before in
     let a = d .before .before .args in
     let clear : placeRefusal (a .s .now) (a .state) ≡ 0 = sym (d .admit-place .ensures) ∙ ap admissionNumber (b .enum-told .given .1) in
-    rw (clear, c .shown-count .ensures, c .before .syntax-of .ensures)
+    rw (clear, c .shown-count .ensures, c .before .syntax-for .ensures)
 
 returns-2 : tie.Need-returns-2
 unfolding currentCountOf
@@ -52,7 +52,7 @@ current-count-spec =
     (tie.spec
     admit-place-requires
     enum-told
-    syntax-of-requires
+    syntax-for-requires
     shown-count-requires
     enum-known-admitted
     returns

@@ -7,8 +7,8 @@ use borrow.Author.Needs.{needs}
 use Rattle.reader.proofs.skip.next.Statement.{statement}
 use Rattle.reader.proofs.skip.next.Tie as tie
 
-syntax-of-requires : tie.Need-syntax-of-requires
-syntax-of-requires c κs = search needs
+syntax-for-requires : tie.Need-syntax-for-requires
+syntax-for-requires c κs = search needs
 
 next-in-requires : tie.Need-next-in-requires
 next-in-requires c κs = search needs
@@ -17,7 +17,7 @@ returns : tie.Need-returns
 returns c =
     let x = c .before in
     let a = x .before .before .args in
-    c .next-in .ensures ∙ ap (λ (y : Syntax). nextOf (readingWith y) (a .s .now) (a .state) (a .reader)) (x .syntax-of .ensures)
+    c .next-in .ensures ∙ ap (λ (y : Syntax). nextOf (readingWith y) (a .s .now) (a .state) (a .reader)) (x .syntax-for .ensures)
 
 pub next-spec : {M : Type 1} → statement M
-next-spec = tie.close (tie.spec syntax-of-requires next-in-requires returns)
+next-spec = tie.close (tie.spec syntax-for-requires next-in-requires returns)

@@ -7,8 +7,8 @@ use borrow.Author.Needs.{needs}
 use Rattle.reader.proofs.skip.next_all.Statement.{statement}
 use Rattle.reader.proofs.skip.next_all.Tie as tie
 
-syntax-of-requires : tie.Need-syntax-of-requires
-syntax-of-requires c κs = search needs
+syntax-for-requires : tie.Need-syntax-for-requires
+syntax-for-requires c κs = search needs
 
 next-all-in-requires : tie.Need-next-all-in-requires
 next-all-in-requires c κs = search needs
@@ -17,7 +17,7 @@ returns : tie.Need-returns
 returns c =
     let x = c .before in
     let a = x .before .before .args in
-    c .next-all-in .ensures ∙ ap (λ (y : Syntax). nextAllOf (readingWith y) (a .s .now) (a .state) (a .reader)) (x .syntax-of .ensures)
+    c .next-all-in .ensures ∙ ap (λ (y : Syntax). nextAllOf (readingWith y) (a .s .now) (a .state) (a .reader)) (x .syntax-for .ensures)
 
 pub next-all-spec : {M : Type 1} → statement M
-next-all-spec = tie.close (tie.spec syntax-of-requires next-all-in-requires returns)
+next-all-spec = tie.close (tie.spec syntax-for-requires next-all-in-requires returns)

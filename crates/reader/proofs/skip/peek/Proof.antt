@@ -7,8 +7,8 @@ use borrow.Author.Needs.{needs}
 use Rattle.reader.proofs.skip.peek.Statement.{statement}
 use Rattle.reader.proofs.skip.peek.Tie as tie
 
-syntax-of-requires : tie.Need-syntax-of-requires
-syntax-of-requires c κs = search needs
+syntax-for-requires : tie.Need-syntax-for-requires
+syntax-for-requires c κs = search needs
 
 peek-in-requires : tie.Need-peek-in-requires
 peek-in-requires c κs = search needs
@@ -17,7 +17,7 @@ returns : tie.Need-returns
 returns c =
     let x = c .before in
     let a = x .before .before .args in
-    c .peek-in .ensures ∙ ap (λ (y : Syntax). peekOf (readingWith y) (a .s .now) (a .state) (a .reader)) (x .syntax-of .ensures)
+    c .peek-in .ensures ∙ ap (λ (y : Syntax). peekOf (readingWith y) (a .s .now) (a .state) (a .reader)) (x .syntax-for .ensures)
 
 pub peek-spec : {M : Type 1} → statement M
-peek-spec = tie.close (tie.spec syntax-of-requires peek-in-requires returns)
+peek-spec = tie.close (tie.spec syntax-for-requires peek-in-requires returns)

@@ -1,7 +1,7 @@
 -- `reader::skip::take_n` meets its contract: refusals first, and then the block. Assumes nothing.
 use mathlib.Core.Path.{_≡_, _∙_, sym, ap}
-use Rattle.reader.specs.declared.rule.Flags.{Flags}
-use Rattle.reader.specs.Reading.{syntaxOf, readingWith, readingOf}
+use Rattle.reader.specs.declared.passing.Syntax.{Syntax}
+use Rattle.reader.specs.Reading.{readingWith, readingFor}
 use Rattle.reader.specs.Answer.{admissionNumber}
 use Rattle.reader.specs.Block.{blockRefusal, blockFrom}
 use Rattle.reader.proofs.Admission.{block-within}
@@ -16,8 +16,8 @@ admit-block-requires c κs = search needs
 enum-told : tie.Need-enum-told
 enum-told c = search needs
 
-flags-of-requires : tie.Need-flags-of-requires
-flags-of-requires c κs = search needs
+syntax-for-requires : tie.Need-syntax-for-requires
+syntax-for-requires c κs = search needs
 
 block-from-requires : tie.Need-block-from-requires
 block-from-requires c κs =
@@ -33,15 +33,15 @@ block-answered-requires : tie.Need-block-answered-requires
 block-answered-requires c κs = search needs
 
 returns : tie.Need-returns
-unfolding readingWith syntaxOf
+unfolding readingWith
 returns c =
     let b = c .before .before in
     let d = b .before .before in
     let a = d .before .before .args in
     let clear : blockRefusal (a .s .now) (a .state) (a .reader) ≡ 0 = sym (d .admit-block .ensures) ∙ ap admissionNumber (b .enum-told .given .1) in
     c .block-from .ensures
-    ∙ ap (λ (f : Flags). blockFrom f (a .s .now) (a .state) (a .n)) (c .before .flags-of .ensures)
-    ∙ block-admitted (readingOf (a .state .format) (a .reader)) (a .s .now) (a .state) (a .reader) (a .n) clear
+    ∙ ap (λ (y : Syntax). blockFrom (y .flags) (a .s .now) (a .state) (a .n)) (c .before .syntax-for .ensures)
+    ∙ block-admitted (readingFor (a .state) (a .reader)) (a .s .now) (a .state) (a .reader) (a .n) clear
 
 returns-2 : tie.Need-returns-2
 returns-2 c =
@@ -50,7 +50,7 @@ returns-2 c =
     let a = d .before .before .args in
     let number = sym (ap admissionNumber (k .admitted .given .1)) ∙ d .admit-block .ensures in
     rw (c .block-answered .ensures)
-    (block-refused (readingOf (a .state .format) (a .reader)) (a .s .now) (a .state) (a .reader) (a .n) (k .admitted .given .0 .0) number)
+    (block-refused (readingFor (a .state) (a .reader)) (a .s .now) (a .state) (a .reader) (a .n) (k .admitted .given .0 .0) number)
 
 pub take-n-spec : {M : Type 1} → statement M
 take-n-spec =
@@ -58,7 +58,7 @@ take-n-spec =
     (tie.spec
     admit-block-requires
     enum-told
-    flags-of-requires
+    syntax-for-requires
     block-from-requires
     enum-known-admitted
     block-answered-requires

@@ -1,6 +1,6 @@
 -- `reader::skip::take_n_part` meets its contract: the part lies between the two cursors. Assumes nothing.
 use native.Mathlib.Omega.{arith}
-use Rattle.reader.specs.Reading.{readingOf}
+use Rattle.reader.specs.Reading.{readingFor}
 use Rattle.reader.proofs.Blocks.{part-within, part-taken, part-none}
 use borrow.Author.Needs.{needs}
 use Rattle.reader.proofs.skip.take_n_part.Statement.{statement}
@@ -16,7 +16,7 @@ sub-result : tie.Need-sub-result
 sub-result c =
     let d = c .before .before .before in
     let a = d .before .before .args in
-    omega (arith, part-within (readingOf (a .state .format) (a .reader)) (a .s .now) (a .state) (a .reader) (a .n) (d .take-n .result) (d .take-n .ensures) (c .enum-told .given .1) .0)
+    omega (arith, part-within (readingFor (a .state) (a .reader)) (a .s .now) (a .state) (a .reader) (a .n) (d .take-n .result) (d .take-n .ensures) (c .enum-told .given .1) .0)
 
 part-result-start : tie.Need-part-result-start
 part-result-start c = sub-result c
@@ -25,7 +25,7 @@ part-result-end : tie.Need-part-result-end
 part-result-end c =
     let d = c .before .before .before in
     let a = d .before .before .args in
-    omega (arith, part-within (readingOf (a .state .format) (a .reader)) (a .s .now) (a .state) (a .reader) (a .n) (d .take-n .result) (d .take-n .ensures) (c .enum-told .given .1) .1)
+    omega (arith, part-within (readingFor (a .state) (a .reader)) (a .s .now) (a .state) (a .reader) (a .n) (d .take-n .result) (d .take-n .ensures) (c .enum-told .given .1) .1)
 
 enum-told-2 : tie.Need-enum-told-2
 enum-told-2 c = search needs
@@ -55,19 +55,19 @@ returns : tie.Need-returns
 returns c =
     let d = c .before .before .before .before in
     let a = d .before .before .args in
-    part-taken (readingOf (a .state .format) (a .reader)) (a .s .now) (a .state) (a .reader) (a .n) (d .take-n .result) (d .take-n .ensures) (c .before .enum-told .given .1)
+    part-taken (readingFor (a .state) (a .reader)) (a .s .now) (a .state) (a .reader) (a .n) (d .take-n .result) (d .take-n .ensures) (c .before .enum-told .given .1)
 
 returns-2 : tie.Need-returns-2
 returns-2 c =
     let d = c .before .before .before .before in
     let a = d .before .before .args in
-    part-none (readingOf (a .state .format) (a .reader)) (a .s .now) (a .state) (a .reader) (a .n) (d .take-n .result) (d .take-n .ensures) (rw (c .before .enum-told2 .given .1))
+    part-none (readingFor (a .state) (a .reader)) (a .s .now) (a .state) (a .reader) (a .n) (d .take-n .result) (d .take-n .ensures) (rw (c .before .enum-told2 .given .1))
 
 returns-3 : tie.Need-returns-3
 returns-3 c =
     let d = c .before .before .before .before .before in
     let a = d .before .before .args in
-    part-none (readingOf (a .state .format) (a .reader)) (a .s .now) (a .state) (a .reader) (a .n) (d .take-n .result) (d .take-n .ensures) (rw (c .before .before .block .given .1))
+    part-none (readingFor (a .state) (a .reader)) (a .s .now) (a .state) (a .reader) (a .n) (d .take-n .result) (d .take-n .ensures) (rw (c .before .before .block .given .1))
 
 pub take-n-part-spec : {M : Type 1} → statement M
 take-n-part-spec =
