@@ -12,7 +12,7 @@ use Rattle.reader.proofs.bytes.Bytes as T
 use Rattle.reader.proofs.bytes.Bytes.Laws as T′
 use Rattle.reader.proofs.state.State as S
 use Rattle.reader.proofs.state.State.Laws as S′
-use Rattle.reader.proofs.Kept.{mach, v, Own, slc-out}
+use Rattle.reader.proofs.Kept.{stateVal, mach, v, Own, slc-out}
 use denote.RattleType.{Denots, Valss}
 use denote.Laws.{Tells}
 use types.Kit.{use0}
@@ -34,14 +34,14 @@ module _ {M : Type 1} (𝓤 : URA M) (H : Heap 𝓤) (A : Atoms 𝓤) (W : Given
   Entry = ⋆ 𝓤 H A ((‵ (flft κ q) ⊛ ‵ ftrue) ∷ ‵ (owns (B (κ, tt) ∷ Ts) (d, xs) (mach d ∷ [], us)) ∷ [])
 
   abbrev Asked : SProp 𝓤
-  Asked = ⋆ 𝓤 H A ((‵ (flft κ q) ⊛ ‵ ftrue) ∷ ‵ (owns (ShrSlice (named 0) κ u8 ∷ S.the-row ∷ Ts) (d .slc, (d .state, xs)) (v d ∷ [], (S′.lowered (d .state) ∷ [], us))) ∷ [])
+  Asked = ⋆ 𝓤 H A ((‵ (flft κ q) ⊛ ‵ ftrue) ∷ ‵ (owns (ShrSlice (named 0) κ u8 ∷ S.the-row ∷ Ts) (d .slc, (d .state, xs)) (v d ∷ [], (stateVal (d .state) ∷ [], us))) ∷ [])
 
-  pub asked : (Q : SProp 𝓤) → ent 𝓤 (emp 𝓤) Q → Is S.the-row (d .state) (S′.lowered (d .state) ∷ []) → ent 𝓤 Entry (sep 𝓤 (sep 𝓤 Asked Q) (sem 𝓤 H A (Own (α (κ, tt)) d)))
+  pub asked : (Q : SProp 𝓤) → ent 𝓤 (emp 𝓤) Q → Is S.the-row (d .state) (stateVal (d .state) ∷ []) → ent 𝓤 Entry (sep 𝓤 (sep 𝓤 Asked Q) (sem 𝓤 H A (Own (α (κ, tt)) d)))
   asked Q may is =
       qed W ((‵ (flft κ q) ⊛ ‵ ftrue) ∷ ‵ (owns (B (κ, tt) ∷ Ts) (d, xs) (mach d ∷ [], us)) ∷ []) ∵ move ! (1 ∷ []) $ fsplit ! $ move ! (1 ∷ []) $ drop ! $
       use1 W (‵ (ShrSlice (named 0) κ u8 .own (d .slc) (v d ∷ [])) ⊛ ‵ (Own (α (κ, tt)) d)) (slc-out (α (κ, tt)) 𝓤 H A W d) $ split ! $
       use0 W (‵ (owns Ts xs us)) had $ owned ! S.the-row (Is S.the-row) (LL.makes S.the-type S′.the-plain 𝓤 H A) (d .state) _ is $ fjoin ! $ move ! (1 ∷ 0 ∷ []) $ fjoin ! $
-      move ! (2 ∷ 0 ∷ []) $ use2 W (raw (sep 𝓤 Asked Q)) (qed W ((‵ (flft κ q) ⊛ ‵ ftrue) ∷ ‵ (owns (ShrSlice (named 0) κ u8 ∷ S.the-row ∷ Ts) (d .slc, (d .state, xs)) (v d ∷ [], (S′.lowered (d .state) ∷ [], us))) ∷ []) ∵ use0 W (raw Q) may $ move ! (1 ∷ 2 ∷ []) $ join ! $ frame ! $ done !) $ frame ! $ done !
+      move ! (2 ∷ 0 ∷ []) $ use2 W (raw (sep 𝓤 Asked Q)) (qed W ((‵ (flft κ q) ⊛ ‵ ftrue) ∷ ‵ (owns (ShrSlice (named 0) κ u8 ∷ S.the-row ∷ Ts) (d .slc, (d .state, xs)) (v d ∷ [], (stateVal (d .state) ∷ [], us))) ∷ []) ∵ use0 W (raw Q) may $ move ! (1 ∷ 2 ∷ []) $ join ! $ frame ! $ done !) $ frame ! $ done !
 
   pub left : ent 𝓤 (sem 𝓤 H A (Own (α (κ, tt)) d)) (sem 𝓤 H A (owns (B (κ, tt) ∷ Ts) (d, xs) (mach d ∷ [], us)))
   left = qed W (‵ (Own (α (κ, tt)) d) ∷ []) ∵ use0 W (‵ (owns Ts xs us)) had $ move ! (1 ∷ 0 ∷ []) $ fjoin ! $ done !

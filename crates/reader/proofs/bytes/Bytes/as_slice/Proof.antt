@@ -5,7 +5,7 @@ use Rattle.reader.specs.Bytes.{restOf}
 use Rattle.reader.specs.declared.bytes.Bytes.{Bytes}
 use Rattle.reader.proofs.state.State.Laws as S′
 use Rattle.reader.proofs.Close.{concluded}
-use Rattle.reader.proofs.Kept.{mach, v, Own, wt, state-is}
+use Rattle.reader.proofs.Kept.{stateVal, mach, v, Own, wt, state-is, state-wt}
 use Rattle.reader.proofs.Parted.{α, B, vals, tells, asked, left}
 use Rattle.reader.proofs.bytes.rest as g
 use Rattle.reader.proofs.bytes.rest.Symbol as g-def
@@ -32,7 +32,7 @@ module _ {M : Type 1} (𝓤 : URA M) (H : Heap 𝓤) (A : Atoms 𝓤) (W : Given
 
   -- the call: what the callee is passed, and what is known of its result
   abbrev to : Callee 𝓤 H A mem run .Ghost
-  to = (((κ, tt), (q, tt), tt, (d .slc, (d .state, tt)), (v d ∷ [], (S′.lowered (d .state) ∷ [], tt))), tt)
+  to = (((κ, tt), (q, tt), tt, (d .slc, (d .state, tt)), (v d ∷ [], (stateVal (d .state) ∷ [], tt))), tt)
 
   abbrev Known : RefT (List ℕ) → Type 0
   Known r = now r ≡ restOf (now (d .slc)) (d .state)
@@ -52,7 +52,7 @@ module _ {M : Type 1} (𝓤 : URA M) (H : Heap 𝓤) (A : Atoms 𝓤) (W : Given
         qed W (raw (onEntry 𝓤 H A f.signature (κ, tt) (q, tt) (d, tt) at) ∷ []) ∵ enter ! C Λ code.function (mach d ∷ []) _ $
         alloc1 ! (λ l₀. alloc1 ! (λ l₁. alloc1 ! (λ l₂. alloc1 ! (λ l₃. alloc0 ! $ params1 ! $ pass1 ! (init ! 4 refl (wt (α (κ, tt)) 𝓤 H A W d p)) $ pass0 ! $
         assigns ! (of-opd ! (load ! (from ! (fld ! refl (stop !))) (look-in ! 4 (sub ! 0 refl (whole !))))) (from ! (stop !)) (init ! 2 refl (tt, wt (α (κ, tt)) 𝓤 H A W d p .1 .0)) $
-        assigns ! (of-opd ! (load ! (from ! (fld ! refl (stop !))) (look-in ! 4 (sub ! 1 refl (whole !))))) (from ! (stop !)) (init ! 0 refl (tt, wt (α (κ, tt)) 𝓤 H A W d p .1 .1 .0)) $
+        assigns ! (of-opd ! (load ! (from ! (fld ! refl (stop !))) (look-in ! 4 (sub ! 1 refl (whole !))))) (from ! (stop !)) (init ! 0 refl (state-wt (α (κ, tt)) 𝓤 H A W d p)) $
         move ! (8 ∷ []) $ use1 W (raw (Callee 𝓤 H A mem run .pre to) ⊛ ‵ (Own (α (κ, tt)) d)) (asked 𝓤 H A W κ q d [] tt tt (id⊢ 𝓤 (emp 𝓤)) (emp 𝓤) (id⊢ 𝓤 (emp 𝓤)) (state-is (α (κ, tt)) d p)) $ split ! $
         calls-at ! fm (Callee 𝓤 H A mem run) known to (and-then ! (load ! (from ! (stop !)) (look ! 4 refl)) (and-then ! (load ! (from ! (stop !)) (look ! 2 refl)) (no-more !))) (λ u.
         use1 W (later (some (λ (r : RefT (List ℕ)). ((‵ (flft κ q) ⊛ ‵ ftrue) ⊛ ‵ (ShrSlice (named 0) κ u8 .own r (u ∷ []))) ⊛ raw (ensured 𝓤 H A g.ended (g.clauses 𝓤 H A mem run) (κ, tt) (d .slc, (d .state, tt)) tt r)))) (id⊢ 𝓤 _) $ await ! tt $ pick ! (λ r.

@@ -13,7 +13,7 @@ use Rattle.reader.proofs.state.Reader.Laws as R′
 use Rattle.reader.proofs.state.State.Laws as S′
 use Rattle.reader.proofs.skip.Count as Cn
 use Rattle.reader.proofs.skip.Count.Laws as Cn′
-use Rattle.reader.proofs.Kept.{mach, v, Own, wt, state-is}
+use Rattle.reader.proofs.Kept.{stateVal, mach, v, Own, wt, state-is, state-wt}
 use Rattle.reader.proofs.Parted.{α, B, vals, tells, asked, left}
 use Rattle.reader.proofs.skip.current_count as g
 use Rattle.reader.proofs.skip.current_count.Symbol as g-def
@@ -48,7 +48,7 @@ module _ {M : Type 1} (𝓤 : URA M) (H : Heap 𝓤) (A : Atoms 𝓤) (W : Given
 
   -- the call: what the callee is passed, and what is known of its result
   abbrev to : Callee 𝓤 H A mem run .Ghost
-  to = (((κ, tt), (q, tt), tt, (d .slc, (d .state, (r, tt))), (v d ∷ [], (S′.lowered (d .state) ∷ [], (rv ∷ [], tt)))), tt)
+  to = (((κ, tt), (q, tt), tt, (d .slc, (d .state, (r, tt))), (v d ∷ [], (stateVal (d .state) ∷ [], (rv ∷ [], tt)))), tt)
 
   abbrev Known : Count → Type 0
   Known n = countOutcomeOf n ≡ countBytes d r
@@ -68,7 +68,7 @@ module _ {M : Type 1} (𝓤 : URA M) (H : Heap 𝓤) (A : Atoms 𝓤) (W : Given
         qed W (raw (onEntry 𝓤 H A f.signature (κ, tt) (q, tt) (d, (r, tt)) at) ∷ []) ∵ enter ! C Λ code.function (mach d ∷ rv ∷ []) _ $
         alloc1 ! (λ l₀. alloc1 ! (λ l₁. alloc1 ! (λ l₂. alloc1 ! (λ l₃. alloc1 ! (λ l₄. alloc0 ! $ params1 ! $ pass1 ! (init ! 6 refl (wt (α (κ, tt)) 𝓤 H A W d d-is)) $ pass1 ! (init ! 4 refl (EL.lawful R.the-type R′.the-laws 𝓤 H A W tt .typed r _ r-is .0)) $ pass0 ! $
         assigns ! (of-opd ! (load ! (from ! (fld ! refl (stop !))) (look-in ! 6 (sub ! 0 refl (whole !))))) (from ! (stop !)) (init ! 2 refl (tt, wt (α (κ, tt)) 𝓤 H A W d d-is .1 .0)) $
-        assigns ! (of-opd ! (load ! (from ! (fld ! refl (stop !))) (look-in ! 6 (sub ! 1 refl (whole !))))) (from ! (stop !)) (init ! 0 refl (tt, wt (α (κ, tt)) 𝓤 H A W d d-is .1 .1 .0)) $
+        assigns ! (of-opd ! (load ! (from ! (fld ! refl (stop !))) (look-in ! 6 (sub ! 1 refl (whole !))))) (from ! (stop !)) (init ! 0 refl (state-wt (α (κ, tt)) 𝓤 H A W d d-is)) $
         move ! (10 ∷ []) $ use1 W (raw (Callee 𝓤 H A mem run .pre to) ⊛ ‵ (Own (α (κ, tt)) d)) (asked 𝓤 H A W κ q d (R.the-row ∷ []) (r, tt) (rv ∷ [], tt) had (emp 𝓤) (id⊢ 𝓤 (emp 𝓤)) (state-is (α (κ, tt)) d d-is)) $ split ! $
         calls-at ! fm (Callee 𝓤 H A mem run) known to (and-then ! (load ! (from ! (stop !)) (look ! 4 refl)) (and-then ! (load ! (from ! (stop !)) (look ! 2 refl)) (and-then ! (load ! (from ! (stop !)) (look ! 6 refl)) (no-more !)))) (λ u.
         use1 W (later (some (λ (n : Count). ((‵ (flft κ q) ⊛ ‵ ftrue) ⊛ ‵ (Cn.the-row .own n (u ∷ []))) ⊛ raw (ensured 𝓤 H A g.ended (g.clauses 𝓤 H A mem run) (κ, tt) (d .slc, (d .state, (r, tt))) tt n)))) (id⊢ 𝓤 _) $ await ! tt $ pick ! (λ n.

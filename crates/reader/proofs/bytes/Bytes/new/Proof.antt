@@ -1,12 +1,13 @@
 -- `reader::bytes::Bytes::new` meets its contract: a walk of its MIR, by hand. The state is made by `State::fresh`, which is covered, and a `Bytes` of the slice passed and of it, in the result's local.
 -- Assumes nothing.
 use Rattle.reader.proofs.Walk.LL
-use Rattle.reader.proofs.Walk.{_≡_, refl, ap, ℕ, List, [], _∷_, length, URA, fullShare, named, Val, SProp, ent, emp, via, fst∗, snd∗, exE, id⊢, Lft, Share, Fml, ftrue, flft, fat, Memory, Routine, Heap, Calls, Loops, WpFn, Atoms, sem, Fun, fact, givenOf, tables, Given, ‵, raw, _⊛_, some, later, _$_, _∵_, !, qed, by, move, drop, use1, split, join, pick, rewrite, fsplit, fjoin, suffices, frame, await, done, agg, look, init, forget, stop, from, load, and-then, no-more, assigns, land, returns, enter, alloc1, alloc0, params1, pass1, pass0, free1, free0, FmC, owns, Is, shows, u8, RefT, NamedLft, plain, namedLft, sliceVal, ShrSlice, slice-vals, shr-slice-tells, shr-slice-lawful, shr-slice-copy, nothing, owned, facts, heard, own-shut, Contract, Triple, calls-at, ensured, lasts, onEntry, tripleOf, cited, says, Stays, stay-none, stay-none-slice, walkOf, goes-none, goes-none-slice, ends-at, yes}
+use Rattle.reader.proofs.Walk.{_≡_, subst, sym, Holds, hasTy, refl, ap, ℕ, List, [], _∷_, length, URA, fullShare, named, Val, SProp, ent, emp, via, fst∗, snd∗, exE, id⊢, Lft, Share, Fml, ftrue, flft, fat, Memory, Routine, Heap, Calls, Loops, WpFn, Atoms, sem, Fun, fact, givenOf, tables, Given, ‵, raw, _⊛_, some, later, _$_, _∵_, !, qed, by, move, drop, use1, split, join, pick, rewrite, fsplit, fjoin, suffices, frame, await, done, agg, look, init, forget, stop, from, load, and-then, no-more, assigns, land, returns, enter, alloc1, alloc0, params1, pass1, pass0, free1, free0, FmC, owns, Is, shows, u8, RefT, NamedLft, plain, namedLft, sliceVal, ShrSlice, slice-vals, shr-slice-tells, shr-slice-lawful, shr-slice-copy, nothing, owned, facts, heard, own-shut, Contract, Triple, calls-at, ensured, lasts, onEntry, tripleOf, cited, says, Stays, stay-none, stay-none-slice, walkOf, goes-none, goes-none-slice, ends-at, yes}
 use Rattle.reader.specs.State.{freshOf}
 use Rattle.word.specs.declared.format_flags.Format.{Format}
 use Rattle.reader.specs.declared.state.State.{State}
 use Rattle.reader.specs.declared.bytes.Bytes.{Bytes}
 use Rattle.reader.proofs.Close.{concluded}
+use Rattle.reader.proofs.Kept.{stateVal, mach}
 use Rattle.reader.proofs.bytes.Bytes as T
 use Rattle.reader.proofs.bytes.Bytes.Laws as T′
 use Rattle.reader.proofs.state.State as S
@@ -60,10 +61,13 @@ module _ {M : Type 1} (𝓤 : URA M) (H : Heap 𝓤) (A : Atoms 𝓤) (W : Given
   said : (r : State) → ent 𝓤 (ensured 𝓤 H A g.ended (g.clauses 𝓤 H A mem run) tt (w, tt) tt r) (fact 𝓤 (r ≡ freshOf w))
   said r = exE 𝓤 _ (λ ws. snd∗ 𝓤 (sem 𝓤 H A (lasts g.ended tt (w, tt) ws)) (fact 𝓤 (r ≡ freshOf w)))
 
-  exits : (st : State) → st ≡ freshOf w → Is S.the-row st (S′.lowered st ∷ []) → ent 𝓤 (onEntry 𝓤 H A new.signature (κ, tt) (q, tt) (s, (w, tt)) at) (Post (T′.lowered (made st)))
+  typed : (st : State) → st ≡ freshOf w → Holds (hasTy (T′.mir (named 0)) (mach (made st)))
+  typed st e = subst (λ (z : State). Holds (hasTy (T′.mir (named 0)) (mach (made z)))) (sym e) tt
+
+  exits : (st : State) → st ≡ freshOf w → Is S.the-row st (stateVal st ∷ []) → ent 𝓤 (onEntry 𝓤 H A new.signature (κ, tt) (q, tt) (s, (w, tt)) at) (Post (mach (made st)))
   exits st e is =
       qed W ((‵ (flft κ q) ⊛ ‵ ftrue) ∷ ‵ (owns (ShrSlice (named 0) κ u8 ∷ F.the-row ∷ []) (s, (w, tt)) at) ∷ []) ∵
-      suffices ! _ (ends-at 𝓤 H A new.ended stayed (new.clauses 𝓤 H A mem run) W (((κ, tt), (q, tt), tt, (s, (w, tt)), at), tt) (T′.lowered (made st)) (made st) (tt, (tt, tt)) (tt, (tt, tt))) $ says ! (ap made e) $
+      suffices ! _ (ends-at 𝓤 H A new.ended stayed (new.clauses 𝓤 H A mem run) W (((κ, tt), (q, tt), tt, (s, (w, tt)), at), tt) (mach (made st)) (made st) (tt, (tt, tt)) (tt, (tt, tt))) $ says ! (ap made e) $
       frame ! $ fsplit ! $ use1 W (‵ Own ⊛ ‵ Own) (shr-slice-copy 𝓤 H A W (named 0) κ u8 .twice s (v ∷ [])) $ split ! $ move ! (0 ∷ 2 ∷ []) $ fjoin ! $ frame ! $
       -- [what slc owns]: what the fields own together, of it and of the state's facts, is what the struct owns
       nothing ! $ owned ! S.the-row (Is S.the-row) (LL.makes S.the-type S′.the-plain 𝓤 H A) st _ is $ fjoin ! $ move ! (1 ∷ 0 ∷ []) $ fjoin ! $ by ! (own-shut 𝓤 H A W (T.the-type α) (T′.the-laws α) (s, (st, tt)))
@@ -82,7 +86,7 @@ module _ {M : Type 1} (𝓤 : URA M) (H : Heap 𝓤) (A : Atoms 𝓤) (W : Given
         facts ! S.the-row (Is S.the-row) (shows 𝓤 H A S.the-row) r (u ∷ []) (λ is.
         land ! (from ! (stop !)) (init ! 0 refl (LL.lawful S.the-type S′.the-laws 𝓤 H A W .typed r _ is .0)) $
         rewrite ! 0 (λ (x : Val). ‵ (fat fullShare S′.mir l₃ 0 x)) (val-at S.the-type S′.the-laws r is) refl $
-        assigns ! (agg ! (and-then ! (load ! (from ! (stop !)) (look ! 4 refl)) (and-then ! (load ! (from ! (stop !)) (look ! 0 refl)) (no-more !)))) (from ! (stop !)) (init ! 6 refl (tt, (shr-slice-lawful 𝓤 H A W (named 0) κ u8 .typed s (v ∷ []) p .0 .1, (LL.lawful S.the-type S′.the-laws 𝓤 H A W .typed r _ (is-at S.the-type S′.the-laws r is) .0 .1, tt)))) $
+        assigns ! (agg ! (and-then ! (load ! (from ! (stop !)) (look ! 4 refl)) (and-then ! (load ! (from ! (stop !)) (look ! 0 refl)) (no-more !)))) (from ! (stop !)) (init ! 6 refl (typed r e, (shr-slice-lawful 𝓤 H A W (named 0) κ u8 .typed s (v ∷ []) p .0 .1, (LL.lawful S.the-type S′.the-laws 𝓤 H A W .typed r _ (is-at S.the-type S′.the-laws r is) .0 .1, tt)))) $
         returns ! (look ! 6 refl) $ forget ! 0 refl $ forget ! 2 refl $ forget ! 4 refl $ forget ! 6 refl $ move ! (6 ∷ 7 ∷ []) $ free1 ! $ move ! (4 ∷ 5 ∷ []) $ free1 ! $ move ! (2 ∷ 3 ∷ []) $ free1 ! $ free1 ! $ free0 ! $ by ! (exits r e (is-at S.the-type S′.the-laws r is))))))))))
 
 pub new-spec : {M : Type 1} → stated.statement M
