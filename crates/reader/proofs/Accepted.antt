@@ -5,7 +5,7 @@ use mathlib.Core.List.{List}
 use mathlib.Core.Option.{some}
 use Prim.Native.Nat.{ℕ, _<_}
 use native.Mathlib.Omega.{arith}
-use Rattle.word.specs.Word.{flag, digitSeparator}
+use Rattle.word.specs.Word.{flag, digitSeparator, mantissaRadix}
 use Rattle.word.specs.Check.{consecutiveAlone, fullCheck}
 use Rattle.word.proofs.Accepted.{separator-no-digit, none-alone}
 use Rattle.reader.specs.declared.state.Reader.{Reader}
@@ -27,7 +27,7 @@ module _ (sheet : Sheet) (accepted : fullCheck (sheet .format) ≡ 0) where
   a-separator : (r : Reader) (b : ℕ) → isSeparator (readingOn sheet r .separator) b ≡ true → neighbourOf (readingOn sheet r) (some b) ≡ aSeparator
   unfolding neighbourOf readingWith syntaxOn syntaxOf
   a-separator r b e =
-      let no-digit : readingOn sheet r .digit b ≡ false = rw (separator-is (digitSeparator (sheet .format)) b e) (separator-no-digit (sheet .format) accepted) in
+      let no-digit : readingOn sheet r .digit b ≡ false = rw (separator-is (digitSeparator (sheet .format)) b e) (separator-no-digit (sheet .format) accepted (mantissaRadix (sheet .format)) (omega arith)) in
       rw (no-digit, e)
 
   settles-accepted : (r : Reader) → Settles (readingOn sheet r)
@@ -47,7 +47,7 @@ module _ (sheet : Sheet) (accepted : fullCheck (sheet .format) ≡ 0) where
   line-special true = refl
   line-special false = refl
 
-  consecutive-holds : (r : Reader) → lineConsecutive (readingOn sheet r .flags) r ≡ 0
+  pub consecutive-holds : (r : Reader) → lineConsecutive (readingOn sheet r .flags) r ≡ 0
   unfolding readingWith syntaxOn syntaxOf flagsOf consecutiveAlone
   consecutive-holds Integer = rw (none-alone (sheet .format) accepted .0)
   consecutive-holds Fraction = rw (none-alone (sheet .format) accepted .1)

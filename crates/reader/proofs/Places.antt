@@ -111,7 +111,7 @@ abbrev pub runEnd : ℕ → List ℕ → ℕ → ℕ
 runEnd separator s i = i + separatorRun separator (drop i s)
 
 -- the byte after the separators that a list begins with
-run-head : (separator : ℕ) (l : List ℕ) → head? (drop (separatorRun separator l) l) ≡ firstOther separator l
+pub run-head : (separator : ℕ) (l : List ℕ) → head? (drop (separatorRun separator l) l) ≡ firstOther separator l
 run-head separator [] = refl
 run-head separator (b ∷ l) = go (isSeparator separator b) refl (run-head separator l) where
   go :

@@ -63,7 +63,7 @@ module _ (m : Reading) (s : List ℕ) (isFirst : Bool) (place : ℕ) where
     pub separator : isSeparator (m .separator) byte ≡ true
     pub rule : m .rule isFirst (previous m s place) (following m s place) ≡ true
 
-  passes-here : mayPass m s isFirst place ≡ true → PassesHere
+  pub passes-here : mayPass m s isFirst place ≡ true → PassesHere
   unfolding mayPass
   passes-here e = go (byteAt s place) refl e where
     go : (o : Option ℕ) → byteAt s place ≡ o → passesByte m s isFirst place o ≡ true → PassesHere

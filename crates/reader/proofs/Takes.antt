@@ -30,7 +30,7 @@ byte-inside s k b e = go (ltb k (length s)) refl where
   go false t =
       absurd (none-there b (sym (byte-missing s k (ltb-false k (length s) t)) ∙ e))
 
-run-fits : (separator : ℕ) (l : List ℕ) → separatorRun separator l ≤ length l
+pub run-fits : (separator : ℕ) (l : List ℕ) → separatorRun separator l ≤ length l
 run-fits separator [] = omega arith
 run-fits separator (b ∷ l) = go (isSeparator separator b) (run-fits separator l) where
   go : (t : Bool) → separatorRun separator l ≤ length l → cond t (suc (separatorRun separator l)) 0 ≤ suc (length l)

@@ -15,12 +15,12 @@ use Rattle.word.specs.Ascii.{validAscii}
 use Rattle.word.specs.Check.{line, firstFailing, validControlIn, validControl, validPunctuation, consecutiveAlone, radixLines, controlLines, flagLines, consecutiveLines, fullCheck}
 
 -- where no line of a list fails, none of its parts fails
-both-hold : (a b : List ℕ) → firstFailing (a ++ b) ≡ 0 → (firstFailing a ≡ 0) × (firstFailing b ≡ 0)
+pub both-hold : (a b : List ℕ) → firstFailing (a ++ b) ≡ 0 → (firstFailing a ≡ 0) × (firstFailing b ≡ 0)
 both-hold [] b e = (refl, e)
 both-hold (zero ∷ a) b e = both-hold a b e
 both-hold (suc n ∷ a) b e = absurd (omega arith)
 
-line-holds : (n : ℕ) (holds : Bool) (rest : List ℕ) → firstFailing (line (suc n) holds ∷ rest) ≡ 0 → (holds ≡ true) × (firstFailing rest ≡ 0)
+pub line-holds : (n : ℕ) (holds : Bool) (rest : List ℕ) → firstFailing (line (suc n) holds ∷ rest) ≡ 0 → (holds ≡ true) × (firstFailing rest ≡ 0)
 line-holds n true rest e = (refl, e)
 line-holds n false rest e = absurd (omega arith)
 
@@ -47,10 +47,11 @@ module _ (f : Format) (accepted : fullCheck f ≡ 0) where
       let rest = line 5 (validControl f (basePrefix f)) ∷ line 6 (validControl f (baseSuffix f)) ∷ line 7 (validPunctuation f) ∷ [] in
       line-holds 3 (validControl f (digitSeparator f)) rest (lines-4-on .0) .0
 
-  pub separator-no-digit : isDigit (digitSeparator f) (mantissaRadix f) ≡ false
+  -- of no radix up to the larger of the two
+  pub separator-no-digit : (radix : ℕ) → radix ≤ max (mantissaRadix f) (exponentRadix f) → isDigit (digitSeparator f) radix ≡ false
   unfolding validControl isDigit
-  separator-no-digit =
-      less-below (digitValue (digitSeparator f)) (mantissaRadix f) (max (mantissaRadix f) (exponentRadix f)) (omega arith)
+  separator-no-digit radix h =
+      less-below (digitValue (digitSeparator f)) radix (max (mantissaRadix f) (exponentRadix f)) h
       (no-digit (max (mantissaRadix f) (exponentRadix f)) (digitSeparator f) valid-separator)
 
   lines-12-on : firstFailing (consecutiveLines f) ≡ 0

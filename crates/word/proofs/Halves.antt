@@ -8,7 +8,7 @@ use Rattle.word.specs.Bits.{bits}
 use Rattle.word.specs.Word.{word, field}
 
 -- of a number below 2 ^ total, the bits that end by `total` are those of the number with more put on top
-bits-below : (n total shift width : ℕ) → shift + width ≤ total → bits (n % 2 ^ total) shift width ≡ bits n shift width
+pub bits-below : (n total shift width : ℕ) → shift + width ≤ total → bits (n % 2 ^ total) shift width ≡ bits n shift width
 bits-below n total shift width fits =
     let e : (total - (width + shift)) + (width + shift) ≡ total = omega arith in
     sym (pow.field (n % 2 ^ total) width shift)
