@@ -46,7 +46,7 @@ abbrev pub skipBytes : Bytes → Reader → SkipOutcome
 skipBytes b r = skipZerosOf (readingOf (b .state .format) r) (now (b .slc)) (b .state) r
 
 abbrev pub readBytes : Bytes → Reader → ByteSet → Outcome
-readBytes b r set = readIfOf (readingOf (b .state .format) r) (now (b .slc)) (b .state) r (member set)
+readBytes b r wanted = readIfOf (readingOf (b .state .format) r) (now (b .slc)) (b .state) r (member wanted)
 
 abbrev pub takeNBytes : Bytes → Reader → ℕ → BlockOutcome
 takeNBytes b r n = takeNOf (readingOf (b .state .format) r) (now (b .slc)) (b .state) r n

@@ -106,10 +106,10 @@ impl<'a> Bytes<'a> {
         answer.told
     }
 
-    pub fn read_if(&mut self, reader: Reader, set: ByteSet) -> ReadTold
-        ensures { λ t. ⌜ (readOutcomeOf (record { told = t; state = now (self .exit) .state }) ≡ readBytes (now (self .entry)) reader set) × (now (self .exit) .slc ≡ now (self .entry) .slc) ⌝ }
+    pub fn read_if(&mut self, reader: Reader, wanted: ByteSet) -> ReadTold
+        ensures { λ t. ⌜ (readOutcomeOf (record { told = t; state = now (self .exit) .state }) ≡ readBytes (now (self .entry)) reader wanted) × (now (self .exit) .slc ≡ now (self .entry) .slc) ⌝ }
     {
-        let answer = crate::iterator::read_if(self.slc, self.state, reader, set);
+        let answer = crate::iterator::read_if(self.slc, self.state, reader, wanted);
         self.state = answer.state;
         answer.told
     }

@@ -242,11 +242,11 @@ pub(crate) fn take_run(
         let place = separator_landing(s, syntax, later, count == 0, at);
         let over = place - at;
         if s.len() <= place {
-            let all = passed + over;
+            let total = passed + over;
             return Run {
                 at: place,
                 count,
-                passed: all,
+                passed: total,
             };
         }
         let c = s[place];
