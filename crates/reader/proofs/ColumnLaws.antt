@@ -41,7 +41,7 @@ module _ (s : List ℕ) (start end : ℕ) (ordered : start ≤ end) (inside : en
   pub ordinary-cell :
       (x : Syntax) → start < end → isDigit (getD s start 0) (x .radix) ≡ true → (getD s (end - 1) 0 ≡ x .separator → ⊥)
       → Ordinary x (partFrom s start end)
-  ordinary-cell x some digit other =
+  ordinary-cell x filled digit other =
       let first : start + 0 ≡ start = omega arith in
       let last : start + (end - start - 1) ≡ end - 1 = omega arith in
       record {
@@ -54,13 +54,13 @@ none-double :
     (x : Syntax) → isDigit (x .separator) (x .radix) ≡ false
     → (l : List ℕ) → pairsOf (doubles x) l ≡ 0
     → (i : ℕ) → i + 1 < length l → getD l i 0 ≡ x .separator → getD l (i + 1) 0 ≡ x .separator → ⊥
-none-double x apart [] none i h e f = omega arith
-none-double x apart (b ∷ []) none i h e f = omega arith
-none-double x apart (b ∷ n ∷ l) none zero h e f =
+none-double x apart [] unpaired i h e f = omega arith
+none-double x apart (b ∷ []) unpaired i h e f = omega arith
+none-double x apart (b ∷ n ∷ l) unpaired zero h e f =
     let digit : isDigit n (x .radix) ≡ false = rw f apart in
-    let counted : 1 + pairsOf (doubles x) (n ∷ l) ≡ 0 = rw (eq-eqb b (x .separator) e, digit, eq-eqb n (x .separator) f) at none in
+    let counted : 1 + pairsOf (doubles x) (n ∷ l) ≡ 0 = rw (eq-eqb b (x .separator) e, digit, eq-eqb n (x .separator) f) at unpaired in
     omega arith
-none-double x apart (b ∷ n ∷ l) none (suc i) h e f =
+none-double x apart (b ∷ n ∷ l) unpaired (suc i) h e f =
     none-double x apart (n ∷ l) (omega arith) i (omega arith) e (rw add-one (rw add-one at f))
 
 -- when a buffer is quick: where runs are not passed, or where it has none
@@ -77,8 +77,8 @@ module _ (x : Syntax) (r : Reader) (s : List ℕ) (counts : (hasAnyFlag (x .flag
         }
 
     pub quick-by-buffer : pairsOf (doubles x) s ≡ 0 → Quick x r s
-    quick-by-buffer none =
-        record { counts = counts; positive = positive; apart = apart; single = λ runs. none-double x apart s none }
+    quick-by-buffer unpaired =
+        record { counts = counts; positive = positive; apart = apart; single = λ runs. none-double x apart s unpaired }
 
 -- only a digit behind a byte is counted
 digit-or-none : (d s : Bool) → cond d true (cond s false false) ≡ d
@@ -94,8 +94,8 @@ behind-digits x b (n ∷ l) = rw (digit-or-none (isDigit n (x .radix)) (eqb n (x
 first-and-behind :
     (x : Syntax) (s : List ℕ) → 0 < length s
     → cond (isDigit (getD s 0 0) (x .radix)) 1 0 + pairsOf (beforeDigits x) s ≡ digitsIn (x .radix) s
-first-and-behind x [] some = absurd (omega arith)
-first-and-behind x (b ∷ l) some = rw (behind-digits x b l)
+first-and-behind x [] filled = absurd (omega arith)
+first-and-behind x (b ∷ l) filled = rw (behind-digits x b l)
 
 -- what a stretch adds: nothing where it is empty, else as it begins with a digit or not
 pub empty-stretch : (x : Syntax) (s : List ℕ) → length s ≡ 0 → noTotals ≡ ordinaryTotals x s
@@ -107,8 +107,8 @@ pub stretch-told :
     → passed ≡ pairsOf (passing x) s → behind ≡ pairsOf (beforeDigits x) s
     → 0 < length s → first ≡ isDigit (getD s 0 0) (x .radix) → digits ≡ cond first 1 0 + behind
     → _≡_ {A = Totals} (record { taken = length s - passed; passed = passed; digits = digits }) (ordinaryTotals x s)
-stretch-told x s passed behind digits first passes counts some begins sum =
-    rw (passes, sum, counts, begins, first-and-behind x s some)
+stretch-told x s passed behind digits first passes counts filled begins total =
+    rw (passes, total, counts, begins, first-and-behind x s filled)
 
 -- nothing is counted in a fresh state
 pub fresh-count : (f : Format) (r : Reader) → 0 ≡ countOf (freshOf f) r

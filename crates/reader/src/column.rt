@@ -51,13 +51,13 @@ fn smaller(a: usize, b: usize) -> usize
 }
 
 // Where a cell ends, with its end brought within bounds.
-fn bound_of(length: usize, start: usize, end: usize) -> usize
-    ensures { λ r. ⌜ r ≡ min (max end start) length ⌝ }
+fn bound_of(size: usize, start: usize, end: usize) -> usize
+    ensures { λ r. ⌜ r ≡ min (max end start) size ⌝ }
 {
     if end < start {
-        return smaller(start, length);
+        return smaller(start, size);
     }
-    smaller(end, length)
+    smaller(end, size)
 }
 
 fn add_totals(a: Totals, b: Totals) -> Totals
