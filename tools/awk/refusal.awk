@@ -1,4 +1,4 @@
-# Why the prover refuses, from what `rt dev` printed. Prints the place of the first fact that fails, unless there is an error of form: a
+# Why the prover refuses an edit, from what it printed. Prints the place of the first fact that fails, unless there is an error of form: a
 # need, field or name that is not there, a need that the proof does not answer, a definition or contract that cannot be read. Such an
 # error shows that the text has another shape, and nothing about its answers; it is printed instead, with exit status 1. Where there
 # is neither, nothing is printed, and the exit status is 1 too.
@@ -20,7 +20,7 @@ function end_error() {
 match($0, /[^ ]*\.(antt|rt):[0-9]+:[0-9]+: (error: |it is not proved)/) {
     text = $0
     place = substr($0, RSTART, RLENGTH)
-    sub(/.*\/crates\/[^\/]*\//, "", place)
+    sub(/.*\/(crates\/[^\/]*|must-fail\/[^\/]*\/[^\/]*)\//, "", place)
     unreadable = place ~ /^(src|specs)\/.*: error: $/
     sub(/: (error: |it is not proved)$/, "", place)
 }
