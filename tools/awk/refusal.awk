@@ -1,7 +1,7 @@
-# Why the prover refuses an edit, from what it printed. Prints the place of the first fact that fails, unless there is an error of form: a
-# need, field or name that is not there, a need that the proof does not answer, a definition or contract that cannot be read. Such an
-# error shows that the text has another shape, and nothing about its answers; it is printed instead, with exit status 1. Where there
-# is neither, nothing is printed, and the exit status is 1 too.
+# Why the prover refuses an edit, from what it printed. Prints the place of the first fact that fails, unless there is an error of
+# form: a need, field or name that is not there, a need that the proof does not answer, a definition or contract that cannot be read.
+# Such an error shows that the text has another shape, and nothing about its answers; it is printed instead, with exit status 1. Where
+# there is neither, nothing is printed, and the exit status is 1 too.
 #
 # An error is a line with a place and the indented lines below it. That something else was not admitted follows from another error.
 
