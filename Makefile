@@ -1,5 +1,5 @@
 # make run    the script program: a call script on standard input, a line for each answer on standard output
-# make test   the gate: prove everything, refuse every must-fail edit, run every program and comparison
+# make test   the gate: rt ci (proofs, must-fail edits, programs), the edits of refused/, and every comparison
 # make compare far more comparisons of the readers with the Rust crate than the gate makes; SEED=0x1234 draws others
 # make boundary-valgrind, boundary-sanitize
 #             arbitrary arguments through every function from C, as the gate does it, watched by valgrind or by sanitizers

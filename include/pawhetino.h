@@ -100,7 +100,9 @@ uint32_t pawhetino_take_n_part(
     size_t cursor, size_t integer, size_t fraction, size_t exponent,
     size_t *start, size_t *length, size_t n);
 
-/* How many digits the reader has counted, as lexical-util shows it. Where the call is refused *count stays as it was. */
+/* How many digits the reader has counted, as lexical-util shows it: the stored count; for a reader without flags the cursor where the
+ * word has no separator, else the sum of the three; 0 for the special reader. It goes by no rule, so 12 to 14 are not tested: a reader
+ * whose consecutive flag stands alone shows its stored count. Where the call is refused (16, 17, 19) *count stays as it was. */
 uint32_t pawhetino_current_count(
     const uint8_t *s, size_t len, uint64_t lo, uint64_t hi, uint8_t reader,
     size_t cursor, size_t integer, size_t fraction, size_t exponent, size_t *count);

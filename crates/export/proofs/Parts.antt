@@ -7,10 +7,10 @@ use lib.ListN.{take, drop}
 use Rattle.reader.specs.declared.state.Reader.{Reader}
 use Rattle.reader.specs.declared.state.State.{State}
 use Rattle.reader.specs.Reading.{readingFor}
-use Rattle.reader.specs.Block.{partAt, takeNOf, takeNPart}
+use Rattle.reader.specs.Block.{partAt, partStart, takeNOf, takeNPart}
 use Rattle.export.specs.declared.block.PartReply.{PartReply}
 use Rattle.reader.specs.State.{readerNamed}
-use Rattle.export.specs.Block.{partStart, partLength, partWritten, blockTakenBy, partTakenBy}
+use Rattle.export.specs.Block.{partLength, partWritten, blockTakenBy, partTakenBy}
 
 -- the bytes of a buffer at a place that was told
 abbrev pub bytesAt : List ℕ → PartReply → List ℕ

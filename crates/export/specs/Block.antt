@@ -5,7 +5,7 @@ use mathlib.Core.Option.{Option, some, none}
 use Rattle.reader.specs.declared.state.State.{State}
 use Rattle.reader.specs.Answer.{BlockOutcome}
 use Rattle.reader.specs.Reading.{readingFor}
-use Rattle.reader.specs.Block.{refusedBlock, takeNOf, takeNPart}
+use Rattle.reader.specs.Block.{refusedBlock, takeNOf, takeNPart, partStart}
 use Rattle.export.specs.declared.block.BlockReply.{BlockReply}
 use Rattle.export.specs.declared.block.PartReply.{PartReply}
 use Rattle.export.specs.Numbers.{numbersOf, numbersHeld}
@@ -22,15 +22,12 @@ unfoldable pub blockWritten : BlockOutcome → BlockReply
 blockWritten o =
     record { numbers = numbersOf (o .refusal) (o .state) (o .taken) (o .passed); found = hasBlock (o .block) }
 
--- where a block that is taken at a cursor starts, and its length; 0 and 0 for none and for a refusal
-abbrev pub partStart : ℕ → Option ℕ → ℕ
-partStart cursor none = 0
-partStart cursor (some k) = cursor
-
+-- the length of a block, 0 for none and for a refusal
 abbrev pub partLength : Option ℕ → ℕ
 partLength none = 0
 partLength (some k) = k
 
+-- where its part starts, and its length
 unfoldable pub partWritten : ℕ → BlockOutcome → PartReply
 partWritten cursor o =
     record { number = o .refusal; start = partStart cursor (o .block); length = partLength (o .block) }
@@ -47,5 +44,5 @@ abbrev pub blockHeld : (number cursor integer fraction exponent found taken pass
 blockHeld number cursor integer fraction exponent found taken passed =
     record { numbers = numbersHeld number cursor integer fraction exponent taken passed; found = found }
 
-abbrev pub partHeld : (number start length : ℕ) → PartReply
-partHeld number start length = record { number = number; start = start; length = length }
+abbrev pub partHeld : (number start size : ℕ) → PartReply
+partHeld number start size = record { number = number; start = start; length = size }

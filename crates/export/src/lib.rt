@@ -376,15 +376,15 @@ pub extern "C" fn pawhetino_take_n_part(
     fraction: usize,
     exponent: usize,
     start: &mut usize,
-    length: &mut usize,
+    size: &mut usize,
     n: usize,
 ) -> u32
-    ensures { λ r. ⌜ partHeld r (now (start .exit)) (now (length .exit)) ≡ partWritten cursor (blockTakenBy reader (now (s .entry)) (stateOf lo hi cursor integer fraction exponent) n) ⌝ }
+    ensures { λ r. ⌜ partHeld r (now (start .exit)) (now (size .exit)) ≡ partWritten cursor (blockTakenBy reader (now (s .entry)) (stateOf lo hi cursor integer fraction exponent) n) ⌝ }
 {
     let state = reply::state_of(lo, hi, cursor, integer, fraction, exponent);
     let reply = block::part(s, state, reader, n);
     *start = reply.start;
-    *length = reply.length;
+    *size = reply.length;
     reply.number
 }
 

@@ -230,8 +230,8 @@ fn answered(call: Call, s: &[u8], state: State, reader: Reader) -> Answer
         Call::Peek => reader::skip::peek(s, state, reader),
         Call::Next => reader::skip::next(s, state, reader),
         Call::ReadIf(a, b, c, d) => {
-            let set = ByteSet { bits: [a, b, c, d] };
-            answer_of_read(reader::iterator::read_if(s, state, reader, set))
+            let wanted = ByteSet { bits: [a, b, c, d] };
+            answer_of_read(reader::iterator::read_if(s, state, reader, wanted))
         }
         Call::ReadIfValueCased(value) => {
             answer_of_read(reader::iterator::read_if_value_cased(s, state, reader, value))

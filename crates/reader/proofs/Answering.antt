@@ -60,7 +60,7 @@ module _ (m : Reader → Reading) (s : List ℕ) (sheet : Sheet) (st : State) (s
   pub answering : (call : Call) → Answering (answerBy m s st call)
   answering (peekBy r) = one-step (answerBy m s st (peekBy r)) _ (peek-step m s st r) refl (peeks (m r) s st r .none-taken) refl
   answering (takeBy r) = one-step (answerBy m s st (takeBy r)) _ (take-step m s st r) refl (take-counts m s st r) refl
-  answering (readIfBy r set) =
-      one-step (answerBy m s st (readIfBy r set)) _ (read-step m s st r set) refl (read-counts m s st r set) refl
+  answering (readIfBy r wanted) =
+      one-step (answerBy m s st (readIfBy r wanted)) _ (read-step m s st r wanted) refl (read-counts m s st r wanted) refl
   answering (zeroSkipBy r) = skip-answers r
   answering (blockBy r n) = one-step (answerBy m s st (blockBy r n)) _ (block-step m s st r n) refl (block-counts m s st r n) refl

@@ -7,6 +7,8 @@ use Prim.Native.Nat.{ℕ, _+_, _-_, _≤_, min}
 use native.Mathlib.Omega.{arith}
 use lib.Dec.{eqb}
 use lib.ListN.{length, take, drop}
+use base.Fml.{GName}
+use denote.Ref.{RefT, now}
 use borrow.Author.Tests.{eqb-true}
 use Rattle.reader.specs.declared.state.Reader.{Reader}
 use Rattle.reader.specs.declared.state.State.{State}
@@ -15,9 +17,10 @@ use Rattle.reader.specs.declared.skip.Block.{Block}
 use Rattle.reader.specs.declared.skip.Block.the-variants.{Taken}
 use Rattle.reader.specs.declared.skip.BlockAnswer.{BlockAnswer}
 use Rattle.reader.specs.State.{movedTo}
-use Rattle.reader.specs.Reading.{Reading, hasAnyFlag}
+use Rattle.reader.specs.Reading.{Reading, readingFor, hasAnyFlag}
 use Rattle.reader.specs.Answer.{numberOf, BlockOutcome, blockBytes, blockOutcomeOf}
-use Rattle.reader.specs.Block.{blockRefusal, refusedBlock, blockFrom, takeNOf, takeNPart}
+use Rattle.reader.specs.Part.{PartOf}
+use Rattle.reader.specs.Block.{blockRefusal, refusedBlock, blockFrom, takeNOf, takeNPart, partStart, BlockPart}
 use Rattle.reader.proofs.Admission.{block-within, refusal-tells}
 use Rattle.reader.proofs.Looking.{none-there}
 
@@ -60,12 +63,43 @@ module _ (m : Reading) (s : List ℕ) (st : State) (r : Reader) (n : ℕ) where
       pub part-within : (st .cursor ≤ a .state .cursor) × (a .state .cursor ≤ length s)
       part-within = (omega (arith, moves .0), omega (arith, moves .0, moves .1))
 
-      pub part-taken : take (a .state .cursor - st .cursor) (drop (st .cursor) s) ≡ takeNPart m s st r n
+      part-taken : take (a .state .cursor - st .cursor) (drop (st .cursor) s) ≡ takeNPart m s st r n
       unfolding takeNPart
       part-taken =
           let same : a .state .cursor - st .cursor ≡ a .told .taken = omega (arith, moves .0) in
           rw (answered, same)
 
-    pub part-none : blockBytes (a .told .block) (a .told .taken) ≡ none → [] ≡ takeNPart m s st r n
-    unfolding takeNPart
-    part-none nothing = rw (sym bytes, nothing)
+      part-start : st .cursor ≡ partStart (st .cursor) (takeNOf m s st r n .block)
+      part-start = rw answered
+
+    module _ (nothing : blockBytes (a .told .block) (a .told .taken) ≡ none) where
+      none-part : [] ≡ takeNPart m s st r n
+      unfolding takeNPart
+      none-part = rw (sym bytes, nothing)
+
+      none-start : 0 ≡ partStart (st .cursor) (takeNOf m s st r n .block)
+      none-start = rw (sym bytes, nothing)
+
+-- a sub-slice under some ghost name
+abbrev pub sub : RefT (List ℕ) → ℕ → List ℕ → GName → RefT (List ℕ)
+sub lent start contents ghost = record { ptr = (lent .ptr .0, start + lent .ptr .1); name = ghost; now = contents }
+
+-- the lent slice between the two cursors is the part of a block; where there is none, its empty part at the start is
+module _ (lent : RefT (List ℕ)) (st : State) (r : Reader) (n : ℕ) (a : BlockAnswer) (e : blockOutcomeOf a ≡ takeNOf (readingFor st r) (now lent) st r n) (ghost : GName) where
+  pub part-of-block : a .told .block ≡ Taken → BlockPart lent st r n (sub lent (st .cursor) (take (a .state .cursor - st .cursor) (drop (st .cursor) (now lent))) ghost)
+  part-of-block taken =
+      let m = readingFor st r in
+      record {
+        block = refl;
+        offset = ap (λ (k : ℕ). k + lent .ptr .1) (part-start m (now lent) st r n a e taken);
+        bytes = part-taken m (now lent) st r n a e taken;
+      }
+
+  pub part-of-none : blockBytes (a .told .block) (a .told .taken) ≡ none → BlockPart lent st r n (sub lent 0 [] ghost)
+  part-of-none nothing =
+      let m = readingFor st r in
+      record {
+        block = refl;
+        offset = ap (λ (k : ℕ). k + lent .ptr .1) (none-start m (now lent) st r n a e nothing);
+        bytes = none-part m (now lent) st r n a e nothing;
+      }

@@ -24,30 +24,30 @@ module _ (m : Reading) (s : List ℕ) (st : State) (r : Reader) where
     unfolding nextOf
     takes-byte = rw (sym seen)
 
-    pub reads-byte : (set : ℕ → Bool) → set b ≡ true
-        → record { refusal = 0; byte = some b; taken = 1; passed = passed; state = movedTo st (place + 1) } ≡ readIfOf m s st r set
+    pub reads-byte : (wanted : ℕ → Bool) → wanted b ≡ true
+        → record { refusal = 0; byte = some b; taken = 1; passed = passed; state = movedTo st (place + 1) } ≡ readIfOf m s st r wanted
     unfolding readIfOf movedTo
-    reads-byte set holds = rw (sym seen, holds)
+    reads-byte wanted holds = rw (sym seen, holds)
 
-    pub declines-byte : (set : ℕ → Bool) → set b ≡ false
-        → record { refusal = 0; byte = none; taken = 0; passed = passed; state = movedTo st place } ≡ readIfOf m s st r set
+    pub declines-byte : (wanted : ℕ → Bool) → wanted b ≡ false
+        → record { refusal = 0; byte = none; taken = 0; passed = passed; state = movedTo st place } ≡ readIfOf m s st r wanted
     unfolding readIfOf
-    declines-byte set fails = rw (sym seen, fails)
+    declines-byte wanted fails = rw (sym seen, fails)
 
   module _ (place passed : ℕ) (seen : lookOutcome st (End place passed) ≡ peekOf m s st r) where
     pub takes-end : lookOutcome st (End place passed) ≡ nextOf m s st r
     unfolding nextOf
     takes-end = rw (sym seen)
 
-    pub declines-end : (set : ℕ → Bool) → lookOutcome st (End place passed) ≡ readIfOf m s st r set
+    pub declines-end : (wanted : ℕ → Bool) → lookOutcome st (End place passed) ≡ readIfOf m s st r wanted
     unfolding readIfOf
-    declines-end set = rw (sym seen)
+    declines-end wanted = rw (sym seen)
 
   module _ (e : Refusal) (seen : lookOutcome st (Refused e) ≡ peekOf m s st r) where
     pub takes-refused : refused (numberOf e) st ≡ nextOf m s st r
     unfolding nextOf
     takes-refused = rw (sym seen)
 
-    pub reads-refused : (set : ℕ → Bool) → refused (numberOf e) st ≡ readIfOf m s st r set
+    pub reads-refused : (wanted : ℕ → Bool) → refused (numberOf e) st ≡ readIfOf m s st r wanted
     unfolding readIfOf
-    reads-refused set = rw (sym seen)
+    reads-refused wanted = rw (sym seen)

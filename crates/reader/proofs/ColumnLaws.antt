@@ -1,12 +1,12 @@
 -- Laws of the cells of a column: when a cell is ordinary, when a buffer is quick, and what a stretch and a cell add. Assumes nothing.
 use mathlib.Core.Path.{_≡_, refl, sym, ap, _∙_}
-use mathlib.Core.Bool.{Bool, true, false, cond, _&&_, false≢true}
+use mathlib.Core.Bool.{Bool, true, false, cond, not, _&&_, _||_, and-eq-true-iff}
 use mathlib.Core.List.{List, [], _∷_}
 use Prim.Native.Nat.{ℕ, zero, suc, _+_, _-_, _≤_, _<_}
 use native.Mathlib.Numerals.{add-one}
 use native.Mathlib.Omega.{arith}
-use borrow.Author.Tests.{eq-eqb}
-use lib.Dec.{eqb}
+use borrow.Author.Tests.{eq-eqb, eqb-true, eqb-false, not-true}
+use lib.Dec.{eqb, leb}
 use lib.ListN.{length, getD, length-drop, length-take}
 use lib.Seq.{getD-take, getD-drop}
 use Rattle.word.specs.Digit.{isDigit}
@@ -23,7 +23,7 @@ use Rattle.reader.specs.Answer.{runOutcome}
 use Rattle.reader.specs.Calls.{nextAllOf, countedOnes}
 use Rattle.reader.specs.Pairs.{pairsOf}
 use Rattle.reader.specs.Column.{noTotals, cellTotals, totalsOf, partFrom}
-use Rattle.reader.specs.Ordinary.{Quick, Ordinary, passing, doubles, beforeDigits, digitsIn, ordinaryTotals}
+use Rattle.reader.specs.Ordinary.{Quick, Ordinary, fillsOf, isQuick, passing, doubles, beforeDigits, digitsIn, ordinaryTotals}
 use Rattle.reader.proofs.Places.{no-separator}
 
 -- A part of a slice: its length, its bytes, and when it is an ordinary cell.
@@ -41,7 +41,7 @@ module _ (s : List ℕ) (start end : ℕ) (ordered : start ≤ end) (inside : en
   pub ordinary-cell :
       (x : Syntax) → start < end → isDigit (getD s start 0) (x .radix) ≡ true → (getD s (end - 1) 0 ≡ x .separator → ⊥)
       → Ordinary x (partFrom s start end)
-  ordinary-cell x some digit other =
+  ordinary-cell x filled digit other =
       let first : start + 0 ≡ start = omega arith in
       let last : start + (end - start - 1) ≡ end - 1 = omega arith in
       record {
@@ -54,31 +54,43 @@ none-double :
     (x : Syntax) → isDigit (x .separator) (x .radix) ≡ false
     → (l : List ℕ) → pairsOf (doubles x) l ≡ 0
     → (i : ℕ) → i + 1 < length l → getD l i 0 ≡ x .separator → getD l (i + 1) 0 ≡ x .separator → ⊥
-none-double x apart [] none i h e f = omega arith
-none-double x apart (b ∷ []) none i h e f = omega arith
-none-double x apart (b ∷ n ∷ l) none zero h e f =
+none-double x apart [] unpaired i h e f = omega arith
+none-double x apart (b ∷ []) unpaired i h e f = omega arith
+none-double x apart (b ∷ n ∷ l) unpaired zero h e f =
     let digit : isDigit n (x .radix) ≡ false = rw f apart in
-    let counted : 1 + pairsOf (doubles x) (n ∷ l) ≡ 0 = rw (eq-eqb b (x .separator) e, digit, eq-eqb n (x .separator) f) at none in
+    let counted : 1 + pairsOf (doubles x) (n ∷ l) ≡ 0 = rw (eq-eqb b (x .separator) e, digit, eq-eqb n (x .separator) f) at unpaired in
     omega arith
-none-double x apart (b ∷ n ∷ l) none (suc i) h e f =
+none-double x apart (b ∷ n ∷ l) unpaired (suc i) h e f =
     none-double x apart (n ∷ l) (omega arith) i (omega arith) e (rw add-one (rw add-one at f))
 
--- when a buffer is quick: where runs are not passed, or where it has none
-module _ (x : Syntax) (r : Reader) (s : List ℕ) (counts : (hasAnyFlag (x .flags) && isCounted r) ≡ true) (positive : 0 < x .separator)
-    (apart : isDigit (x .separator) (x .radix) ≡ false)
-  where
-    pub quick-by-flags : x .flags .consecutive ≡ false → Quick x r s
-    quick-by-flags single =
-        record {
-          counts = counts;
-          positive = positive;
-          apart = apart;
-          single = λ runs i h e f. false≢true (sym single ∙ runs);
-        }
+-- the test by which the quick way is taken tells that the buffer is quick: runs are not passed, or it has none
+pub quick-told : (x : Syntax) (r : Reader) (s : List ℕ) (filled : Bool) → isQuick x r s filled ≡ true → Quick x r s
+unfolding isQuick
+quick-told x r s filled q =
+    let both = and-eq-true-iff _ (not (x .flags .consecutive) || (filled && eqb (pairsOf (doubles x) s) 0)) .0 q in
+    let byWord = and-eq-true-iff _ (not (isDigit (x .separator) (x .radix))) .0 (both .0) in
+    let byReader = and-eq-true-iff _ (not (eqb (x .separator) 0)) .0 (byWord .0) in
+    let apart = not-true _ (byWord .1) in
+    record {
+      counts = byReader .0;
+      positive = let unequal = eqb-false (x .separator) 0 (not-true _ (byReader .1)) in omega (arith, unequal);
+      apart = apart;
+      single = λ runs.
+          let found : (filled && eqb (pairsOf (doubles x) s) 0) ≡ true = rw runs at (both .1) in
+          none-double x apart s (eqb-true (pairsOf (doubles x) s) 0 (and-eq-true-iff filled _ .0 found .1));
+    }
 
-    pub quick-by-buffer : pairsOf (doubles x) s ≡ 0 → Quick x r s
-    quick-by-buffer none =
-        record { counts = counts; positive = positive; apart = apart; single = λ runs. none-double x apart s none }
+-- the last end is the one at the last index, if there is any
+pub none-fills : (s ends : List ℕ) → length ends ≡ 0 → false ≡ fillsOf s ends
+none-fills s [] e = refl
+none-fills s (end ∷ ends) e = absurd (omega arith)
+
+pub fills-told : (s ends : List ℕ) → 0 < length ends → leb (length s) (getD ends (length ends - 1) 0) ≡ fillsOf s ends
+fills-told s [] filled = absurd (omega arith)
+fills-told s (end ∷ []) filled = refl
+fills-told s (end ∷ next ∷ ends) filled =
+    let down : suc (suc (length ends)) - 1 ≡ suc (suc (length ends) - 1) = omega arith in
+    rw down (fills-told s (next ∷ ends) (omega arith))
 
 -- only a digit behind a byte is counted
 digit-or-none : (d s : Bool) → cond d true (cond s false false) ≡ d
@@ -94,8 +106,8 @@ behind-digits x b (n ∷ l) = rw (digit-or-none (isDigit n (x .radix)) (eqb n (x
 first-and-behind :
     (x : Syntax) (s : List ℕ) → 0 < length s
     → cond (isDigit (getD s 0 0) (x .radix)) 1 0 + pairsOf (beforeDigits x) s ≡ digitsIn (x .radix) s
-first-and-behind x [] some = absurd (omega arith)
-first-and-behind x (b ∷ l) some = rw (behind-digits x b l)
+first-and-behind x [] filled = absurd (omega arith)
+first-and-behind x (b ∷ l) filled = rw (behind-digits x b l)
 
 -- what a stretch adds: nothing where it is empty, else as it begins with a digit or not
 pub empty-stretch : (x : Syntax) (s : List ℕ) → length s ≡ 0 → noTotals ≡ ordinaryTotals x s
@@ -107,8 +119,8 @@ pub stretch-told :
     → passed ≡ pairsOf (passing x) s → behind ≡ pairsOf (beforeDigits x) s
     → 0 < length s → first ≡ isDigit (getD s 0 0) (x .radix) → digits ≡ cond first 1 0 + behind
     → _≡_ {A = Totals} (record { taken = length s - passed; passed = passed; digits = digits }) (ordinaryTotals x s)
-stretch-told x s passed behind digits first passes counts some begins sum =
-    rw (passes, sum, counts, begins, first-and-behind x s some)
+stretch-told x s passed behind digits first passes counts filled begins total =
+    rw (passes, total, counts, begins, first-and-behind x s filled)
 
 -- nothing is counted in a fresh state
 pub fresh-count : (f : Format) (r : Reader) → 0 ≡ countOf (freshOf f) r

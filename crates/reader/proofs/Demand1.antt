@@ -123,15 +123,15 @@ module _ (m : Reading) (s : List ℕ) (st : State) (r : Reader) where
     go (inl e) = inl (success (peekOf m s st r .byte) e)
     go (inr away) = inr (ap (λ (o : Outcome). takeByte m r o (o .byte)) away)
 
-  read-turned : (set : ℕ → Bool) → Turned (readIfOf m s st r set)
+  read-turned : (wanted : ℕ → Bool) → Turned (readIfOf m s st r wanted)
   unfolding readIfOf
-  read-turned set = go peek-turned where
-    success : peekOf m s st r .refusal ≡ 0 → readIfOf m s st r set .refusal ≡ 0
-    success e = read-cases m s st r set (λ o. o .refusal ≡ 0) (λ b h. refl) refl (λ h. e)
+  read-turned wanted = go peek-turned where
+    success : peekOf m s st r .refusal ≡ 0 → readIfOf m s st r wanted .refusal ≡ 0
+    success e = read-cases m s st r wanted (λ o. o .refusal ≡ 0) (λ b h. refl) refl (λ h. e)
 
-    go : Turned (peekOf m s st r) → Turned (readByteIf set (peekOf m s st r) (peekOf m s st r .byte))
+    go : Turned (peekOf m s st r) → Turned (readByteIf wanted (peekOf m s st r) (peekOf m s st r .byte))
     go (inl e) = inl (success e)
-    go (inr away) = inr (ap (λ (o : Outcome). readByteIf set o (o .byte)) away)
+    go (inr away) = inr (ap (λ (o : Outcome). readByteIf wanted o (o .byte)) away)
 
   -- what holds of a result and of the refusal holds of the answer
   either : (P : Outcome → Type 0) (o : Outcome) → Turned o → (o .refusal ≡ 0 → P o) → P (refused own st) → P o
@@ -169,10 +169,10 @@ module _ (m : Reader → Reading) (s : List ℕ) (st : State) where
   result-or-refusal (takeBy r) =
       either (m r) s st r (λ o. ResultOrRefusal m s st (takeBy r) (takeAnswered r o)) (nextOf (m r) s st r) (take-turned (m r) s st r) inl
       (keeps (takeBy r) (takeAnswered r (refused (refusalOf (m r) s st r) st)) refl refl refl refl refl (reader-number (m r .flags) s st r))
-  result-or-refusal (readIfBy r set) =
-      either (m r) s st r (λ o. ResultOrRefusal m s st (readIfBy r set) (readAnswered r o)) (readIfOf (m r) s st r set)
-      (read-turned (m r) s st r set) inl
-      (keeps (readIfBy r set) (readAnswered r (refused (refusalOf (m r) s st r) st)) refl refl refl refl refl (reader-number (m r .flags) s st r))
+  result-or-refusal (readIfBy r wanted) =
+      either (m r) s st r (λ o. ResultOrRefusal m s st (readIfBy r wanted) (readAnswered r o)) (readIfOf (m r) s st r wanted)
+      (read-turned (m r) s st r wanted) inl
+      (keeps (readIfBy r wanted) (readAnswered r (refused (refusalOf (m r) s st r) st)) refl refl refl refl refl (reader-number (m r .flags) s st r))
   result-or-refusal (zeroSkipBy r) = skip-keeps r
   result-or-refusal (blockBy r n) = block-keeps r n
 

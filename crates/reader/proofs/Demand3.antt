@@ -107,10 +107,10 @@ module _ (m : Sheet → Reader → Reading) (s : List ℕ) (st : State) (law : (
       let by = m (sheetOf st) r in
       changes-nothing (takeBy r) (takeAnswered r (stilled (nextOf by s st r))) (ap (takeAnswered r) (take-after-peek by (law r) s st r)) refl refl
       (rw (take-passes by (law r) s st r) (add-zero (peekOf by s st r .passed)))
-  peek-changes-nothing (readIfBy r set) allowed =
+  peek-changes-nothing (readIfBy r wanted) allowed =
       let by = m (sheetOf st) r in
-      changes-nothing (readIfBy r set) (readAnswered r (stilled (readIfOf by s st r set))) (ap (readAnswered r) (read-after-peek by (law r) s st r set)) refl refl
-      (rw (read-passes by (law r) s st r set) (add-zero (peekOf by s st r .passed)))
+      changes-nothing (readIfBy r wanted) (readAnswered r (stilled (readIfOf by s st r wanted))) (ap (readAnswered r) (read-after-peek by (law r) s st r wanted)) refl refl
+      (rw (read-passes by (law r) s st r wanted) (add-zero (peekOf by s st r .passed)))
   peek-changes-nothing (zeroSkipBy r) clear =
       let by = m (sheetOf st) r in
       let open-to = skip-clear by (law r) s st r clear in
@@ -146,17 +146,17 @@ module _ (m : Sheet → Reader → Reading) (s : List ℕ) (sheet : Sheet) (law 
 
   pub byte-tally : (calls : List Call) → ByteTally m s sheet calls
   byte-tally calls =
-      let all = kept m s sheet calls in
+      let reached = kept m s sheet calls in
       record {
-        bytes = all .tallied .bytes;
-        inside = all .tallied .inside;
-        cursor = all .cursor;
-        runs = all .tallied .runs;
-        counts = λ r. all .tallied .counts r ∙ agreed (m sheet) (runFresh m s sheet calls .history) (all .agree) r;
-        agree = all .agree;
-        skips = all .skips;
+        bytes = reached .tallied .bytes;
+        inside = reached .tallied .inside;
+        cursor = reached .cursor;
+        runs = reached .tallied .runs;
+        counts = λ r. reached .tallied .counts r ∙ agreed (m sheet) (runFresh m s sheet calls .history) (reached .agree) r;
+        agree = reached .agree;
+        skips = reached .skips;
         peeks = λ before call after e. peek-in-list before call;
         inserted = λ before call after e allowed.
             same-end before call after allowed ∙ ap (λ (l : List Call). runFresh m s sheet l .state) (sym e);
-        word = all .word;
+        word = reached .word;
       }

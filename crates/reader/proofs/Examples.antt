@@ -22,13 +22,16 @@ pub data Label : Type 0 where
   A B C D E F G H J K L M N : Label
 
 pub data Call : Type 0 where
-  peek take : Call
+  aPeek aTake : Call
 
--- what a call shows: the byte, and afterwards the cursor, what the call passed, and the integer count
+-- what a call shows: its refusal (0 for none), the byte, how many bytes it took and separators it passed, and the cursor and the
+-- integer count afterwards
 pub record Shown : Type 0 where
+  pub refusal : ℕ
   pub byte : Option ℕ
-  pub cursor : ℕ
+  pub taken : ℕ
   pub passed : ℕ
+  pub cursor : ℕ
   pub count : ℕ
 
 -- an example makes calls, or it asks for the full check of its word
@@ -60,11 +63,15 @@ consecutive = 2 ^ 41
 abbrev pub formatWith : ℕ → Format
 formatWith flags = record { lo = flags; hi = 10 * 2 ^ 40 + 95 }
 
+-- a peek that saw a byte, a take that took one, and a call that met the end; none of them refused
 abbrev pub saw : ℕ → ℕ → ℕ → ℕ → Shown
-saw byte cursor passed count = record { byte = some byte; cursor = cursor; passed = passed; count = count }
+saw byte cursor passed count = record { refusal = 0; byte = some byte; taken = 0; passed = passed; cursor = cursor; count = count }
+
+abbrev pub took : ℕ → ℕ → ℕ → ℕ → Shown
+took byte cursor passed count = record { refusal = 0; byte = some byte; taken = 1; passed = passed; cursor = cursor; count = count }
 
 abbrev pub end : ℕ → ℕ → ℕ → Shown
-end cursor passed count = record { byte = none; cursor = cursor; passed = passed; count = count }
+end cursor passed count = record { refusal = 0; byte = none; taken = 0; passed = passed; cursor = cursor; count = count }
 
 abbrev pub example : Label → ℕ → List ℕ → List Call → List Shown → Example
 example label flags text calls shown = record { label = label; flags = flags; text = text; calls = calls; shows = answers shown }
@@ -72,28 +79,36 @@ example label flags text calls shown = record { label = label; flags = flags; te
 -- the bytes of the texts: `_` is 95, `1` is 49, `2` is 50, `x` is 120
 abbrev pub examples : List Example
 examples =
-    example A 0 [] (peek ∷ []) (end 0 0 0 ∷ [])
-    ∷ example B internal (95 ∷ 49 ∷ []) (peek ∷ []) (saw 95 0 0 0 ∷ [])
-    ∷ example C leading (95 ∷ 49 ∷ []) (peek ∷ []) (saw 49 1 1 0 ∷ [])
-    ∷ example D leading (95 ∷ 95 ∷ 49 ∷ []) (peek ∷ []) (saw 95 0 0 0 ∷ [])
-    ∷ example E (internal + leading) (95 ∷ 95 ∷ 49 ∷ []) (peek ∷ peek ∷ []) (saw 95 1 1 0 ∷ saw 95 1 0 0 ∷ [])
-    ∷ example F (leading + consecutive) (95 ∷ 95 ∷ 49 ∷ []) (peek ∷ []) (saw 49 2 2 0 ∷ [])
-    ∷ example G internal (49 ∷ 95 ∷ 50 ∷ []) (take ∷ peek ∷ []) (saw 49 1 0 1 ∷ saw 50 2 1 1 ∷ [])
-    ∷ example H trailing (49 ∷ 95 ∷ []) (take ∷ peek ∷ []) (saw 49 1 0 1 ∷ end 2 1 1 ∷ [])
-    ∷ example J (internal + leading + consecutive) (49 ∷ 95 ∷ 95 ∷ []) (take ∷ peek ∷ []) (saw 49 1 0 1 ∷ end 3 2 1 ∷ [])
-    ∷ example K (internal + consecutive) (49 ∷ 95 ∷ 95 ∷ []) (take ∷ peek ∷ []) (saw 49 1 0 1 ∷ saw 95 1 0 1 ∷ [])
-    ∷ example L (internal + trailing + consecutive) (49 ∷ 95 ∷ 120 ∷ []) (take ∷ peek ∷ []) (saw 49 1 0 1 ∷ saw 120 2 1 1 ∷ [])
-    ∷ example M internal (49 ∷ 95 ∷ 95 ∷ 50 ∷ []) (take ∷ take ∷ take ∷ []) (saw 49 1 0 1 ∷ saw 95 2 0 1 ∷ saw 50 4 1 2 ∷ [])
+    example A 0 [] (aPeek ∷ []) (end 0 0 0 ∷ [])
+    ∷ example B internal (95 ∷ 49 ∷ []) (aPeek ∷ []) (saw 95 0 0 0 ∷ [])
+    ∷ example C leading (95 ∷ 49 ∷ []) (aPeek ∷ []) (saw 49 1 1 0 ∷ [])
+    ∷ example D leading (95 ∷ 95 ∷ 49 ∷ []) (aPeek ∷ []) (saw 95 0 0 0 ∷ [])
+    ∷ example E (internal + leading) (95 ∷ 95 ∷ 49 ∷ []) (aPeek ∷ aPeek ∷ []) (saw 95 1 1 0 ∷ saw 95 1 0 0 ∷ [])
+    ∷ example F (leading + consecutive) (95 ∷ 95 ∷ 49 ∷ []) (aPeek ∷ []) (saw 49 2 2 0 ∷ [])
+    ∷ example G internal (49 ∷ 95 ∷ 50 ∷ []) (aTake ∷ aPeek ∷ []) (took 49 1 0 1 ∷ saw 50 2 1 1 ∷ [])
+    ∷ example H trailing (49 ∷ 95 ∷ []) (aTake ∷ aPeek ∷ []) (took 49 1 0 1 ∷ end 2 1 1 ∷ [])
+    ∷ example J (internal + leading + consecutive) (49 ∷ 95 ∷ 95 ∷ []) (aTake ∷ aPeek ∷ []) (took 49 1 0 1 ∷ end 3 2 1 ∷ [])
+    ∷ example K (internal + consecutive) (49 ∷ 95 ∷ 95 ∷ []) (aTake ∷ aPeek ∷ []) (took 49 1 0 1 ∷ saw 95 1 0 1 ∷ [])
+    ∷ example L (internal + trailing + consecutive) (49 ∷ 95 ∷ 120 ∷ []) (aTake ∷ aPeek ∷ []) (took 49 1 0 1 ∷ saw 120 2 1 1 ∷ [])
+    ∷ example M internal (49 ∷ 95 ∷ 95 ∷ 50 ∷ []) (aTake ∷ aTake ∷ aTake ∷ []) (took 49 1 0 1 ∷ took 95 2 0 1 ∷ took 50 4 1 2 ∷ [])
     ∷ record { label = N; flags = 0; text = []; calls = []; shows = check 0 }
     ∷ []
 
 -- the calls by the definitions
 abbrev pub outcomeOfCall : Call → List ℕ → State → Outcome
-outcomeOfCall peek s st = peekOf (readingFor st Integer) s st Integer
-outcomeOfCall take s st = nextOf (readingFor st Integer) s st Integer
+outcomeOfCall aPeek s st = peekOf (readingFor st Integer) s st Integer
+outcomeOfCall aTake s st = nextOf (readingFor st Integer) s st Integer
 
 abbrev pub shownBy : Outcome → Shown
-shownBy o = record { byte = o .byte; cursor = o .state .cursor; passed = o .passed; count = countOf (o .state) Integer }
+shownBy o =
+    record {
+      refusal = o .refusal;
+      byte = o .byte;
+      taken = o .taken;
+      passed = o .passed;
+      cursor = o .state .cursor;
+      count = countOf (o .state) Integer;
+    }
 
 abbrev pub run : List Call → List ℕ → State → List Shown
 run [] s st = []

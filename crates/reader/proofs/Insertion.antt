@@ -39,18 +39,18 @@ module _ (m : Reading) (r : Reader) (o : Outcome) where
   take-passed none = refl
   take-passed (some b) = refl
 
-module _ (set : ℕ → Bool) (o : Outcome) where
-  read-stilled : (b : Option ℕ) → readByteIf set (stilled o) b ≡ stilled (readByteIf set o b)
+module _ (wanted : ℕ → Bool) (o : Outcome) where
+  read-stilled : (b : Option ℕ) → readByteIf wanted (stilled o) b ≡ stilled (readByteIf wanted o b)
   read-stilled none = refl
-  read-stilled (some b) = go (set b) refl where
-    go : (t : Bool) → set b ≡ t → readByteIf set (stilled o) (some b) ≡ stilled (readByteIf set o (some b))
+  read-stilled (some b) = go (wanted b) refl where
+    go : (t : Bool) → wanted b ≡ t → readByteIf wanted (stilled o) (some b) ≡ stilled (readByteIf wanted o (some b))
     go true e = rw e
     go false e = rw e
 
-  pub read-passed : (b : Option ℕ) → readByteIf set o b .passed ≡ o .passed
+  pub read-passed : (b : Option ℕ) → readByteIf wanted o b .passed ≡ o .passed
   read-passed none = refl
-  read-passed (some b) = go (set b) refl where
-    go : (t : Bool) → set b ≡ t → readByteIf set o (some b) .passed ≡ o .passed
+  read-passed (some b) = go (wanted b) refl where
+    go : (t : Bool) → wanted b ≡ t → readByteIf wanted o (some b) .passed ≡ o .passed
     go true e = rw e
     go false e = rw e
 
@@ -110,10 +110,10 @@ module _ (m : Reading) (law : Settles m) (s : List ℕ) (st : State) (r : Reader
   take-after-peek =
       ap (λ (o : Outcome). takeByte m r o (o .byte)) peek-twice ∙ take-stilled m r (peekOf m s st r) (peekOf m s st r .byte)
 
-  pub read-after-peek : (set : ℕ → Bool) → readIfOf m s (peekOf m s st r .state) r set ≡ stilled (readIfOf m s st r set)
+  pub read-after-peek : (wanted : ℕ → Bool) → readIfOf m s (peekOf m s st r .state) r wanted ≡ stilled (readIfOf m s st r wanted)
   unfolding readIfOf
-  read-after-peek set =
-      ap (λ (o : Outcome). readByteIf set o (o .byte)) peek-twice ∙ read-stilled set (peekOf m s st r) (peekOf m s st r .byte)
+  read-after-peek wanted =
+      ap (λ (o : Outcome). readByteIf wanted o (o .byte)) peek-twice ∙ read-stilled wanted (peekOf m s st r) (peekOf m s st r .byte)
 
   zero-after-peek : zeroReadOf m s r (peekOf m s st r .state) ≡ stilled (zeroReadOf m s r st)
   unfolding zeroReadOf
@@ -125,9 +125,9 @@ module _ (m : Reading) (law : Settles m) (s : List ℕ) (st : State) (r : Reader
   unfolding nextOf
   take-passes = take-passed m r (peekOf m s st r) (peekOf m s st r .byte)
 
-  pub read-passes : (set : ℕ → Bool) → readIfOf m s st r set .passed ≡ peekOf m s st r .passed
+  pub read-passes : (wanted : ℕ → Bool) → readIfOf m s st r wanted .passed ≡ peekOf m s st r .passed
   unfolding readIfOf
-  read-passes set = read-passed set (peekOf m s st r) (peekOf m s st r .byte)
+  read-passes wanted = read-passed wanted (peekOf m s st r) (peekOf m s st r .byte)
 
   zero-passes : zeroReadOf m s r st .passed ≡ peekOf m s st r .passed
   unfolding zeroReadOf

@@ -40,9 +40,9 @@ digits-from : (radix : ℕ) (s : List ℕ) (at : ℕ) → at < length s
 digits-from radix s at h = rw (add-one, drop-cons s at 0 h)
 
 -- one digit more
-one-more : (d : Bool) (count rest all : ℕ) → all ≡ cond d 1 0 + rest → cond (true && d) (count + 1) count + rest ≡ count + all
-one-more true count rest all e = omega arith
-one-more false count rest all e = omega arith
+one-more : (d : Bool) (count rest total : ℕ) → total ≡ cond d 1 0 + rest → cond (true && d) (count + 1) count + rest ≡ count + total
+one-more true count rest total e = omega arith
+one-more false count rest total e = omega arith
 
 positive-on : (d : Bool) (count : ℕ) → 0 < count → 0 < cond (true && d) (count + 1) count
 positive-on true count h = omega arith

@@ -87,5 +87,5 @@ pub parts-end :
     (p : Pairs) (s : List ℕ) (from few : ℕ) → few ≡ pairsOf p (take (length s - from) (drop from s))
     → (count : ℕ) → count + pairsOf p (drop from s) ≡ pairsOf p s → count + few ≡ pairsOf p s
 parts-end p s from few counted count same =
-    let all = take-all (length s - from) (drop from s) (simp length-drop (omega arith)) in
-    omega (arith, rw all at counted)
+    let to-end = take-all (length s - from) (drop from s) (simp length-drop (omega arith)) in
+    omega (arith, rw to-end at counted)

@@ -15,15 +15,15 @@ module _ (m : Reading) (s : List ℕ) (st : State) (r : Reader) where
   seen = peekOf m s st r
 
   -- it takes the byte that a peek sees, or declines it, or, where a peek sees none, answers what the peek answers
-  pub read-cases : (set : ℕ → Bool) (P : Outcome → Type 0)
+  pub read-cases : (wanted : ℕ → Bool) (P : Outcome → Type 0)
       → ((b : ℕ) → peekOf m s st r .byte ≡ some b → P (readTaken (peekOf m s st r) b)) → P (readDeclined (peekOf m s st r)) → (peekOf m s st r .byte ≡ none → P (peekOf m s st r))
-      → P (readIfOf m s st r set)
+      → P (readIfOf m s st r wanted)
   unfolding readIfOf
-  read-cases set P takes declines ends = go (seen .byte) refl where
-    asked : (b : ℕ) → seen .byte ≡ some b → (t : Bool) → set b ≡ t → P (readByteIf set seen (some b))
+  read-cases wanted P takes declines ends = go (seen .byte) refl where
+    asked : (b : ℕ) → seen .byte ≡ some b → (t : Bool) → wanted b ≡ t → P (readByteIf wanted seen (some b))
     asked b e true t = rw t (takes b e)
     asked b e false t = rw t declines
 
-    go : (b : Option ℕ) → seen .byte ≡ b → P (readByteIf set seen b)
+    go : (b : Option ℕ) → seen .byte ≡ b → P (readByteIf wanted seen b)
     go none e = ends e
-    go (some b) e = asked b e (set b) refl
+    go (some b) e = asked b e (wanted b) refl

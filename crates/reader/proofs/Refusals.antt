@@ -40,7 +40,7 @@ module _ (m : Reader → Reading) (s : List ℕ) (st : State) (own : (r : Reader
     only-special : (call : Call) (number : ℕ) → Fault m s st call number → number ≡ 18
     only-special (peekBy r) number = ⊎-elim (λ place. absurd (no-place number place)) (λ fault. absurd (no-own r number fault))
     only-special (takeBy r) number = ⊎-elim (λ place. absurd (no-place number place)) (λ fault. absurd (no-own r number fault))
-    only-special (readIfBy r set) number = ⊎-elim (λ place. absurd (no-place number place)) (λ fault. absurd (no-own r number fault))
+    only-special (readIfBy r wanted) number = ⊎-elim (λ place. absurd (no-place number place)) (λ fault. absurd (no-own r number fault))
     only-special (zeroSkipBy r) number =
         ⊎-elim (λ place. absurd (no-place number place)) (⊎-elim (λ special. special .0) (λ fault. absurd (no-own r number fault)))
     only-special (blockBy r n) number = ⊎-elim (λ place. absurd (no-place number place)) (λ special. special .0)

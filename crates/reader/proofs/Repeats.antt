@@ -61,8 +61,8 @@ module _ (s : List ℕ) (call : State → Outcome) where
 
   pub repeating-starts : (st : State) → Repeating st 0 0 st
   repeating-starts st =
-      let all : length s - 0 ≡ length s = omega arith in
-      record { same = rw all (sym (plus-zero (repeated (length s) call st))); moves = omega arith; fits = omega arith }
+      let untouched : length s - 0 ≡ length s = omega arith in
+      record { same = rw untouched (sym (plus-zero (repeated (length s) call st))); moves = omega arith; fits = omega arith }
 
   module _ (st : State) (taken passed : ℕ) (here : State) (so-far : Repeating st taken passed here) where
     pub repeating-ends : call here .byte ≡ none → plus taken passed (call here) ≡ repeated (length s) call st

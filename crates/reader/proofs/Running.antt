@@ -23,9 +23,9 @@ use Rattle.reader.proofs.Repeats.{Repeating, repeating-starts, repeatin
 use Rattle.reader.proofs.Takes.{next-takes-one}
 
 -- Where the reader counts (t), one more is counted; a count of the special reader changes nothing.
-counts-on : (st : State) (r : Reader) (at count : ℕ) (any digit : Bool)
-    → cond (any && digit) (countedBy (stateAt st r at count) r) (stateAt st r at count)
-    ≡ stateAt st r at (cond ((any && isCounted r) && digit) (count + 1) count)
+counts-on : (st : State) (r : Reader) (at count : ℕ) (flagged digit : Bool)
+    → cond (flagged && digit) (countedBy (stateAt st r at count) r) (stateAt st r at count)
+    ≡ stateAt st r at (cond ((flagged && isCounted r) && digit) (count + 1) count)
 unfolding withCount countedBy
 counts-on st Integer at count true true = refl
 counts-on st Integer at count true false = refl
@@ -41,12 +41,12 @@ counts-on st Special at count true false = refl
 counts-on st Special at count false digit = refl
 
 -- the stored count one byte on
-tells-count : (st : State) (r : Reader) (at count : ℕ) (t : Bool) → countOf (stateAt st r at count) r ≡ count → (to : ℕ) (any : Bool)
-    → countOf (stateAt st r to (cond ((any && isCounted r) && t) (count + 1) count)) r ≡ cond ((any && isCounted r) && t) (count + 1) count
+tells-count : (st : State) (r : Reader) (at count : ℕ) (t : Bool) → countOf (stateAt st r at count) r ≡ count → (to : ℕ) (flagged : Bool)
+    → countOf (stateAt st r to (cond ((flagged && isCounted r) && t) (count + 1) count)) r ≡ cond ((flagged && isCounted r) && t) (count + 1) count
 unfolding withCount movedTo countOf
-tells-count st Integer at count t e to any = refl
-tells-count st Fraction at count t e to any = refl
-tells-count st Exponent at count t e to any = refl
+tells-count st Integer at count t e to flagged = refl
+tells-count st Fraction at count t e to flagged = refl
+tells-count st Exponent at count t e to flagged = refl
 tells-count st Special at count t e to true = e
 tells-count st Special at count t e to false = e
 

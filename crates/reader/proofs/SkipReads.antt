@@ -33,16 +33,16 @@ module _ (m : Reading) (s : List ℕ) (st : State) (r : Reader) where
   seen = peekOf m s st r
 
   -- a byte that a read answers is in its set
-  read-in-set : (set : ℕ → Bool) (b : ℕ) → readIfOf m s st r set .byte ≡ some b → set b ≡ true
+  read-in-set : (wanted : ℕ → Bool) (b : ℕ) → readIfOf m s st r wanted .byte ≡ some b → wanted b ≡ true
   unfolding readIfOf
-  read-in-set set b = go (seen .byte) refl where
-    asked : (c : ℕ) (t : Bool) → set c ≡ t → readByteIf set seen (some c) .byte ≡ some b → set b ≡ true
+  read-in-set wanted b = go (seen .byte) refl where
+    asked : (c : ℕ) (t : Bool) → wanted c ≡ t → readByteIf wanted seen (some c) .byte ≡ some b → wanted b ≡ true
     asked c true t h = let k : some c ≡ some b = rw t at h in let same : c ≡ b = cc in rw same at t
     asked c false t h = absurd (none-there b (rw t at h))
 
-    go : (o : Option ℕ) → seen .byte ≡ o → readByteIf set seen o .byte ≡ some b → set b ≡ true
+    go : (o : Option ℕ) → seen .byte ≡ o → readByteIf wanted seen o .byte ≡ some b → wanted b ≡ true
     go none e h = absurd (none-there b (sym e ∙ h))
-    go (some c) e h = asked c (set c) refl h
+    go (some c) e h = asked c (wanted c) refl h
 
   raised-byte : (o : Outcome) (b : Option ℕ) → raised r o b .byte ≡ o .byte
   raised-byte o none = refl
@@ -178,7 +178,7 @@ module _ (m : Reader → Reading) (s : List ℕ) (st : State) (earlier : List An
       → stepCount m q (stepsOf (answerBy m s st call ∷ earlier)) ≡ historyCount m q (answerBy m s st call ∷ earlier)
   count-agrees (peekBy r) = uncounted r
   count-agrees (takeBy r) = rw so-far
-  count-agrees (readIfBy r set) = uncounted r
+  count-agrees (readIfBy r wanted) = uncounted r
   count-agrees (zeroSkipBy r) = skip-agrees r
   count-agrees (blockBy r n) = uncounted r
 
@@ -186,10 +186,10 @@ module _ (m : Reader → Reading) where
   pub told : (s : List ℕ) (st : State) (call : Call) → AnswerTold (answerBy m s st call)
   told s st (peekBy r) = tt
   told s st (takeBy r) = tt
-  told s st (readIfBy r set) = tt
+  told s st (readIfBy r wanted) = tt
   told s st (zeroSkipBy r) = skip-told (m r) s st r
   told s st (blockBy r n) = tt
 
   pub agreed : (history : List Answered) → CountsAgree m history → (r : Reader) → stepCount m r (stepsOf history) ≡ historyCount m r history
-  agreed [] all r = refl
-  agreed (a ∷ earlier) all r = all .1 r
+  agreed [] agree r = refl
+  agreed (a ∷ earlier) agree r = agree .1 r

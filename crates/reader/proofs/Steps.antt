@@ -192,9 +192,9 @@ module _ (m : Reader → Reading) (s : List ℕ) (st : State) (r : Reader) where
     go none e = rw e (stays m s st r aTake seen view)
     go (some b) e = takes-one m s st r aTake seen view b (takenFrom (m r) r b (seen .state)) e (taken-behind m (seen .state) r b)
 
-  pub read-step : (set : ℕ → Bool) → Moves m s st (stepOf r aRead (readIfOf (m r) s st r set)) (readIfOf (m r) s st r set .state)
-  read-step set =
-      read-cases (m r) s st r set
+  pub read-step : (wanted : ℕ → Bool) → Moves m s st (stepOf r aRead (readIfOf (m r) s st r wanted)) (readIfOf (m r) s st r wanted .state)
+  read-step wanted =
+      read-cases (m r) s st r wanted
       (λ o. Moves m s st (stepOf r aRead o) (o .state))
       (λ b e. takes-one m s st r aRead seen view b (movedTo (seen .state) (seen .state .cursor + 1)) e (moved-behind m (seen .state) r b aRead refl))
       (stays m s st r aRead seen view)
@@ -218,8 +218,8 @@ module _ (m : Reader → Reading) (s : List ℕ) (st : State) (r : Reader) where
     go none e = rw e (view .none-taken)
     go (some b) e = refl
 
-  pub read-counts : (set : ℕ → Bool) → readIfOf (m r) s st r set .taken ≡ length (byteTaken (readIfOf (m r) s st r set .byte))
-  read-counts set = read-cases (m r) s st r set (λ o. o .taken ≡ length (byteTaken (o .byte))) (λ b e. refl) refl (λ e. rw e (view .none-taken))
+  pub read-counts : (wanted : ℕ → Bool) → readIfOf (m r) s st r wanted .taken ≡ length (byteTaken (readIfOf (m r) s st r wanted .byte))
+  read-counts wanted = read-cases (m r) s st r wanted (λ o. o .taken ≡ length (byteTaken (o .byte))) (λ b e. refl) refl (λ e. rw e (view .none-taken))
 
   pub zero-counts : zeroReadOf (m r) s r st .taken ≡ length (byteTaken (zeroReadOf (m r) s r st .byte))
   unfolding zeroReadOf

@@ -35,9 +35,9 @@ use Rattle.reader.proofs.ColumnLaws.{part-length, part-byte}
 -- a part, and the part behind it
 pub parts-join : (s : List ℕ) (start mid end : ℕ) → start ≤ mid → mid ≤ end → partFrom s start end ≡ partFrom s start mid ++ partFrom s mid end
 parts-join s start mid end h k =
-    let all : end - start ≡ (mid - start) + (end - mid) = omega arith in
+    let joint : end - start ≡ (mid - start) + (end - mid) = omega arith in
     let there : start + (mid - start) ≡ mid = omega arith in
-    rw (all, take-add (mid - start) (end - mid) (drop start s), drop-drop (mid - start) start s, there)
+    rw (joint, take-add (mid - start) (end - mid) (drop start s), drop-drop (mid - start) start s, there)
 
 -- what is quick in a buffer is quick in a part of it
 pub quick-part : (x : Syntax) (r : Reader) (s : List ℕ) (start end : ℕ) → start ≤ end → end ≤ length s → Quick x r s → Quick x r (partFrom s start end)
@@ -147,8 +147,8 @@ module _ (x : Syntax) (s ends : List ℕ) (quick : Bool) (cell start : ℕ) wher
       } where
         nothing-yet : (c : Totals) → c ≡ addTotals (ordinaryTotals x (partFrom s start start)) c
         nothing-yet c =
-            let none : start - start ≡ 0 = omega arith in
-            rw none (same-totals c (addTotals noTotals c) (omega arith) (omega arith) (omega arith))
+            let empty : start - start ≡ 0 = omega arith in
+            rw empty (same-totals c (addTotals noTotals c) (omega arith) (omega arith) (omega arith))
 
   pub walk-goes-on : (k at end : ℕ) → Walked x s ends quick cell start k at → k < length ends → end ≡ boundOf s at (getD ends k 0)
       → Ordinary x (partFrom s at end) → quick ≡ true → Walked x s ends quick cell start (k + 1) end

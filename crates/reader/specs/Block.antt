@@ -5,14 +5,16 @@ use mathlib.Core.List.{List, [], _∷_}
 use mathlib.Core.Option.{Option, some, none}
 use lib.Dec.{eqb}
 use lib.ListN.{length, take, drop}
+use denote.Ref.{RefT, now}
 use Rattle.word.specs.Check.{firstFailing}
 use Rattle.reader.specs.declared.state.Reader.{Reader}
 use Rattle.reader.specs.declared.rule.Flags.{Flags}
 use Rattle.reader.specs.declared.state.State.{State}
-use Rattle.reader.specs.Reading.{Reading, hasAnyFlag}
+use Rattle.reader.specs.Reading.{Reading, readingFor, hasAnyFlag}
 use Rattle.reader.specs.State.{movedTo}
 use Rattle.reader.specs.Answer.{BlockOutcome}
 use Rattle.reader.specs.Calls.{line16, line17, line18}
+use Rattle.reader.specs.Part.{PartOf}
 
 -- Block takes test 16, 17 and 18 only.
 unfoldable pub blockRefusal : List ℕ → State → Reader → ℕ
@@ -43,3 +45,16 @@ partAt s place (some k) = take k (drop place s)
 
 unfoldable pub takeNPart : Reading → List ℕ → State → Reader → ℕ → List ℕ
 takeNPart m s st r n = partAt s (st .cursor) (takeNOf m s st r n .block)
+
+-- Where that part starts: a block at the cursor, the empty part for none or a refusal at the buffer's start.
+abbrev pub partStart : ℕ → Option ℕ → ℕ
+partStart cursor none = 0
+partStart cursor (some k) = cursor
+
+-- p is the part of the lent slice that a block take takes
+abbrev pub BlockPart : RefT (List ℕ) → State → Reader → ℕ → RefT (List ℕ) → Type 0
+BlockPart lent st r n p =
+    PartOf lent
+    (partStart (st .cursor) (takeNOf (readingFor st r) (now lent) st r n .block))
+    (takeNPart (readingFor st r) (now lent) st r n)
+    p

@@ -81,14 +81,14 @@ NeverRefusedBy number (a ∷ earlier) = NeverRefusedBy number earlier × (number
 abbrev pub readerOf : Call → Reader
 readerOf (peekBy r) = r
 readerOf (takeBy r) = r
-readerOf (readIfBy r set) = r
+readerOf (readIfBy r wanted) = r
 readerOf (zeroSkipBy r) = r
 readerOf (blockBy r n) = r
 
 abbrev pub Preceded : (Sheet → Reader → Reading) → List ℕ → State → Call → Type 0
 Preceded m s st (peekBy r) = ⊥
 Preceded m s st (takeBy r) = Unit {0}
-Preceded m s st (readIfBy r set) = Unit {0}
+Preceded m s st (readIfBy r wanted) = Unit {0}
 Preceded m s st (zeroSkipBy r) = numberIn (answerTo m s st (zeroSkipBy r)) ≡ 0
 Preceded m s st (blockBy r n) = ⊥
 

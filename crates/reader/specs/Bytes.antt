@@ -1,8 +1,8 @@
 -- The struct that keeps the caller's slice beside the state (document 01, "Recast from the Rust"): its calls are those of the slice and
 -- the state. Assumes nothing.
-use Prim.Native.Nat.{ℕ}
+use Prim.Native.Nat.{ℕ, min}
 use mathlib.Core.List.{List}
-use lib.ListN.{drop}
+use lib.ListN.{length, drop}
 use denote.Ref.{RefT, now}
 use Rattle.word.specs.declared.format_flags.Format.{Format}
 use Rattle.word.specs.declared.byte_set.ByteSet.{ByteSet}
@@ -15,7 +15,8 @@ use Rattle.reader.specs.Reading.{readingOf, readingFor}
 use Rattle.reader.specs.Answer.{Outcome, SkipOutcome, BlockOutcome, CountOutcome}
 use Rattle.reader.specs.Calls.{peekOf, nextOf, nextAllOf, readIfOf, currentCountOf}
 use Rattle.reader.specs.ZeroSkip.{skipZerosOf}
-use Rattle.reader.specs.Block.{takeNOf, takeNPart}
+use Rattle.reader.specs.Part.{PartOf}
+use Rattle.reader.specs.Block.{takeNOf}
 
 -- a slice with a fresh state
 abbrev pub bytesOver : RefT (List ℕ) → Format → Bytes
@@ -25,9 +26,9 @@ bytesOver slc f = record { slc = slc; state = freshOf f }
 abbrev pub atState : Bytes → State → Bytes
 atState b st = record { slc = b .slc; state = st }
 
--- what is left of a buffer; nothing, with the cursor past its end
-unfoldable pub restOf : List ℕ → State → List ℕ
-restOf s st = drop (st .cursor) s
+-- p is what is left of a lent slice: its part from the cursor on; the empty part at its end, with the cursor past that
+abbrev pub Rest : RefT (List ℕ) → State → RefT (List ℕ) → Type 0
+Rest lent st p = PartOf lent (min (st .cursor) (length (now lent))) (drop (st .cursor) (now lent)) p
 
 abbrev pub peekBytes : Bytes → Reader → Outcome
 peekBytes b r = peekOf (readingFor (b .state) r) (now (b .slc)) (b .state) r
@@ -41,14 +42,11 @@ nextAllBytes b r = nextAllOf (readingFor (b .state) r) (now (b .slc)) (b .state)
 abbrev pub countBytes : Bytes → Reader → CountOutcome
 countBytes b r = currentCountOf (readingFor (b .state) r) (now (b .slc)) (b .state) r
 
-abbrev pub partBytes : Bytes → Reader → ℕ → List ℕ
-partBytes b r n = takeNPart (readingFor (b .state) r) (now (b .slc)) (b .state) r n
-
 abbrev pub skipBytes : Bytes → Reader → SkipOutcome
 skipBytes b r = skipZerosOf (readingFor (b .state) r) (now (b .slc)) (b .state) r
 
 abbrev pub readBytes : Bytes → Reader → ByteSet → Outcome
-readBytes b r set = readIfOf (readingFor (b .state) r) (now (b .slc)) (b .state) r (member set)
+readBytes b r wanted = readIfOf (readingFor (b .state) r) (now (b .slc)) (b .state) r (member wanted)
 
 abbrev pub takeNBytes : Bytes → Reader → ℕ → BlockOutcome
 takeNBytes b r n = takeNOf (readingFor (b .state) r) (now (b .slc)) (b .state) r n

@@ -83,11 +83,11 @@ abbrev pub readDeclined : Outcome → Outcome
 readDeclined seen = record { refusal = 0; byte = none; taken = 0; passed = seen .passed; state = seen .state }
 
 abbrev pub readByteIf : (ℕ → Bool) → Outcome → Option ℕ → Outcome
-readByteIf set seen none = seen
-readByteIf set seen (some b) = cond (set b) (readTaken seen b) (readDeclined seen)
+readByteIf wanted seen none = seen
+readByteIf wanted seen (some b) = cond (wanted b) (readTaken seen b) (readDeclined seen)
 
 unfoldable pub readIfOf : Reading → List ℕ → State → Reader → (ℕ → Bool) → Outcome
-readIfOf m s st r set = readByteIf set (peekOf m s st r) (peekOf m s st r .byte)
+readIfOf m s st r wanted = readByteIf wanted (peekOf m s st r) (peekOf m s st r .byte)
 
 -- Take to the end: takes until one answers no byte. There are at most as many takes with a byte as there are bytes.
 unfoldable pub nextAllOf : Reading → List ℕ → State → Reader → Outcome

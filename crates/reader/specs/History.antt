@@ -40,7 +40,7 @@ readsMade m s st r = cond (eqb (skipZerosOf m s st r .refusal) 0) (zeroReadsOf m
 abbrev pub answerBy : (Reader → Reading) → List ℕ → State → Call → Answered
 answerBy m s st (peekBy r) = peekAnswered r (peekOf (m r) s st r)
 answerBy m s st (takeBy r) = takeAnswered r (nextOf (m r) s st r)
-answerBy m s st (readIfBy r set) = readAnswered r (readIfOf (m r) s st r set)
+answerBy m s st (readIfBy r wanted) = readAnswered r (readIfOf (m r) s st r wanted)
 answerBy m s st (zeroSkipBy r) = skipAnswered r (skipZerosOf (m r) s st r) (readsMade (m r) s st r)
 answerBy m s st (blockBy r n) = blockAnswered r (takeNOf (m r) s st r n) (takeNPart (m r) s st r n)
 

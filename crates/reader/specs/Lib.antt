@@ -8,6 +8,7 @@ pub mod Repeat
 pub mod Pairs
 pub mod Calls
 pub mod ZeroSkip
+pub mod Part
 pub mod Block
 pub mod Bytes
 pub mod History

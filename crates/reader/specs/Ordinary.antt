@@ -2,8 +2,9 @@
 -- answers the column's definition is shown in proofs/Ordinary.antt. Assumes nothing.
 use mathlib.Core.Path.{_≡_}
 use Prim.Native.Nat.{ℕ, _+_, _-_, _<_, _≤_}
-use mathlib.Core.Bool.{Bool, true, false, cond, _&&_}
+use mathlib.Core.Bool.{Bool, true, false, cond, not, _&&_, _||_}
 use mathlib.Core.List.{List, [], _∷_}
+use lib.Dec.{eqb, leb}
 use lib.ListN.{length, drop, getD}
 use Rattle.word.specs.Digit.{isDigit}
 use Rattle.word.specs.declared.format_flags.Format.{Format}
@@ -59,6 +60,19 @@ passing x =
 abbrev pub doubles : Syntax → Pairs
 doubles x =
     record { separator = x .separator; radix = x .radix; any = false; digits = false; separators = true; others = false }
+
+-- The cells take up the buffer: the last of them ends where it does, or past that.
+abbrev pub fillsOf : List ℕ → List ℕ → Bool
+fillsOf s [] = false
+fillsOf s (end ∷ []) = leb (length s) end
+fillsOf s (end ∷ next ∷ ends) = fillsOf s (next ∷ ends)
+
+-- Which way is taken: the quick one where the buffer is `Quick`, and with the consecutive flag only where the cells fill it.
+abbrev pub isServed : Syntax → Reader → Bool
+isServed x r = ((hasAnyFlag (x .flags) && isCounted r) && not (eqb (x .separator) 0)) && not (isDigit (x .separator) (x .radix))
+
+unfoldable pub isQuick : Syntax → Reader → List ℕ → Bool → Bool
+isQuick x r s filled = isServed x r && (not (x .flags .consecutive) || (filled && eqb (pairsOf (doubles x) s) 0))
 
 -- any byte with a digit behind it
 abbrev pub beforeDigits : Syntax → Pairs

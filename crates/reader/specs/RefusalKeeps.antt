@@ -39,7 +39,7 @@ OwnFault f Special number = ⊥
 abbrev pub Fault : (Reader → Reading) → List ℕ → State → Call → ℕ → Type 0
 Fault m s st (peekBy r) number = PlaceFault s st number ⊎ OwnFault (m r .flags) r number
 Fault m s st (takeBy r) number = PlaceFault s st number ⊎ OwnFault (m r .flags) r number
-Fault m s st (readIfBy r set) number = PlaceFault s st number ⊎ OwnFault (m r .flags) r number
+Fault m s st (readIfBy r wanted) number = PlaceFault s st number ⊎ OwnFault (m r .flags) r number
 Fault m s st (zeroSkipBy r) number = PlaceFault s st number ⊎ (SpecialFault r number ⊎ OwnFault (m r .flags) r number)
 Fault m s st (blockBy r n) number = PlaceFault s st number ⊎ SpecialFault r number
 

@@ -1,10 +1,9 @@
 // `Bytes`: the caller's slice, kept beside the cursor's state. After lexical-util's Bytes. Each function takes the struct apart and
 // calls one on the slice and the state, which has the work; so the proofs here are walks by hand (proofs/bytes), and short.
 ghost use mathlib.Core.Path.{_≡_};
-ghost use Prim.Native.Nat.{_≤_};
-ghost use lib.ListN.{length, drop};
 ghost use Rattle.reader.specs.Answer.{outcomeOf, readOutcomeOf, skipOutcomeOf, blockOutcomeOf, countOutcomeOf};
-ghost use Rattle.reader.specs.Bytes.{bytesOver, restOf, countBytes, partBytes, peekBytes, nextBytes, nextAllBytes, readBytes, skipBytes, takeNBytes, wholeOutcome};
+ghost use Rattle.reader.specs.Block.{BlockPart};
+ghost use Rattle.reader.specs.Bytes.{bytesOver, Rest, countBytes, peekBytes, nextBytes, nextAllBytes, readBytes, skipBytes, takeNBytes, wholeOutcome};
 use crate::iterator::ReadTold;
 use crate::iterator::SkipTold;
 use crate::skip::BlockTold;
@@ -20,20 +19,16 @@ pub struct Bytes<'a> {
     pub state: State,
 }
 
-// Where the part of a slice from the cursor on starts: at the end, for a cursor past it.
-fn start_of(s: &[u8], cursor: usize) -> usize
-    ensures { λ r. ⌜ (r ≤ length (now (s .entry))) × (drop r (now (s .entry)) ≡ drop cursor (now (s .entry))) ⌝ }
-{
-    if cursor < s.len() { cursor } else { s.len() }
-}
-
-// The part of a slice from the cursor on; empty for a cursor past the end.
+// The part of a slice from the cursor on; the empty part at its end, for a cursor past that.
 pub fn rest<'a>(s: &'a [u8], state: State) -> &'a [u8]
-    ensures { λ r. ⌜ now r ≡ restOf (now (s .entry)) state ⌝ }
+    ensures { λ r. ⌜ Rest (s .entry) state r ⌝ }
 {
     let cursor = state.cursor;
-    let start = start_of(s, cursor);
-    &s[start..]
+    let end = s.len();
+    if end < cursor {
+        return &s[end..end];
+    }
+    &s[cursor..end]
 }
 
 impl<'a> Bytes<'a> {
@@ -60,7 +55,7 @@ impl<'a> Bytes<'a> {
 
     // What is left of the slice.
     pub fn as_slice(self) -> &'a [u8]
-        ensures { λ r. ⌜ now r ≡ restOf (now (self .entry .slc)) (self .entry .state) ⌝ }
+        ensures { λ r. ⌜ Rest (self .entry .slc) (self .entry .state) r ⌝ }
     {
         rest(self.slc, self.state)
     }
@@ -73,7 +68,7 @@ impl<'a> Bytes<'a> {
 
     // The part that `take_n` takes for the same arguments.
     pub fn take_n_part(self, reader: Reader, n: usize) -> &'a [u8]
-        ensures { λ r. ⌜ now r ≡ partBytes (self .entry) reader n ⌝ }
+        ensures { λ r. ⌜ BlockPart (self .entry .slc) (self .entry .state) reader n r ⌝ }
     {
         crate::skip::take_n_part(self.slc, self.state, reader, n)
     }
@@ -111,10 +106,10 @@ impl<'a> Bytes<'a> {
         answer.told
     }
 
-    pub fn read_if(&mut self, reader: Reader, set: ByteSet) -> ReadTold
-        ensures { λ t. ⌜ (readOutcomeOf (record { told = t; state = now (self .exit) .state }) ≡ readBytes (now (self .entry)) reader set) × (now (self .exit) .slc ≡ now (self .entry) .slc) ⌝ }
+    pub fn read_if(&mut self, reader: Reader, wanted: ByteSet) -> ReadTold
+        ensures { λ t. ⌜ (readOutcomeOf (record { told = t; state = now (self .exit) .state }) ≡ readBytes (now (self .entry)) reader wanted) × (now (self .exit) .slc ≡ now (self .entry) .slc) ⌝ }
     {
-        let answer = crate::iterator::read_if(self.slc, self.state, reader, set);
+        let answer = crate::iterator::read_if(self.slc, self.state, reader, wanted);
         self.state = answer.state;
         answer.told
     }

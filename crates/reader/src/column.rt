@@ -8,7 +8,7 @@ ghost use Rattle.reader.specs.Reading.{readingWith, readingOf};
 ghost use Rattle.reader.specs.State.{freshOf};
 ghost use Rattle.reader.specs.Calls.{refusalWith, countedOnes};
 ghost use Rattle.reader.specs.Column.{partFrom, addTotals, cellTotals, columnFrom, columnOf, columnOutcomeOf};
-ghost use Rattle.reader.specs.Ordinary.{Quick, Ordinary, Stretch, passing as passingOf, doubles as doublesOf, beforeDigits, ordinaryTotals};
+ghost use Rattle.reader.specs.Ordinary.{Quick, Ordinary, Stretch, fillsOf, isServed, isQuick, passing as passingOf, doubles as doublesOf, beforeDigits, ordinaryTotals};
 use crate::pairs::Pairs;
 use crate::pairs::count_pairs;
 use crate::passing::Syntax;
@@ -51,13 +51,13 @@ fn smaller(a: usize, b: usize) -> usize
 }
 
 // Where a cell ends, with its end brought within bounds.
-fn bound_of(length: usize, start: usize, end: usize) -> usize
-    ensures { λ r. ⌜ r ≡ min (max end start) length ⌝ }
+fn bound_of(size: usize, start: usize, end: usize) -> usize
+    ensures { λ r. ⌜ r ≡ min (max end start) size ⌝ }
 {
     if end < start {
-        return smaller(start, length);
+        return smaller(start, size);
     }
-    smaller(end, length)
+    smaller(end, size)
 }
 
 fn add_totals(a: Totals, b: Totals) -> Totals
@@ -129,7 +129,9 @@ fn digit_pairs(syntax: Syntax) -> Pairs
 }
 
 // Whether the cells take up the buffer to its end. What a column answers does not hang on it, only how fast.
-fn fills(s: &[u8], ends: &[usize]) -> bool {
+fn fills(s: &[u8], ends: &[usize]) -> bool
+    ensures { λ r. ⌜ r ≡ fillsOf (now (s .entry)) (now (ends .entry)) ⌝ }
+{
     if ends.len() == 0 {
         return false;
     }
@@ -137,18 +139,21 @@ fn fills(s: &[u8], ends: &[usize]) -> bool {
     s.len() <= ends[last]
 }
 
-// Whether ordinary cells of this buffer may be counted together. Where runs are passed the whole buffer is looked through for one, so
-// only where the cells fill it: no byte behind them is read.
-fn is_quick(s: &[u8], filled: bool, syntax: Syntax, reader: Reader) -> bool
-    ensures { λ q. ⌜ (q ≡ true → Quick syntax reader (now (s .entry))) ⌝ }
+// Whether the word and the reader are such that ordinary cells may be counted together.
+fn serves(syntax: Syntax, reader: Reader) -> bool
+    ensures { λ r. ⌜ r ≡ isServed syntax reader ⌝ }
 {
-    if !counts_digits(syntax.flags, reader) {
-        return false;
-    }
-    if syntax.separator == 0 {
-        return false;
-    }
-    if char_is_digit_by_range(syntax.separator, syntax.radix) {
+    let counts = counts_digits(syntax.flags, reader);
+    let digit = char_is_digit_by_range(syntax.separator, syntax.radix);
+    counts & (syntax.separator != 0) & !digit
+}
+
+// Whether ordinary cells of this buffer are counted together. Where runs are passed the whole buffer is looked through for one, so
+// only where the cells fill it.
+fn is_quick(s: &[u8], filled: bool, syntax: Syntax, reader: Reader) -> bool
+    ensures { λ q. ⌜ q ≡ isQuick syntax reader (now (s .entry)) filled ⌝ }
+{
+    if !serves(syntax, reader) {
         return false;
     }
     if !syntax.flags.consecutive {

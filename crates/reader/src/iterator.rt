@@ -71,13 +71,13 @@ fn read_answered(read: Read, taken: usize, passed: usize, state: State) -> ReadA
 }
 
 // A conditional read with what the word says at hand.
-fn read_in(s: &[u8], state: State, syntax: Syntax, reader: Reader, set: ByteSet) -> ReadAnswer
-    ensures { λ r. ⌜ readOutcomeOf r ≡ readIfOf (readingWith syntax) (now (s .entry)) state reader (member set) ⌝ }
+fn read_in(s: &[u8], state: State, syntax: Syntax, reader: Reader, wanted: ByteSet) -> ReadAnswer
+    ensures { λ r. ⌜ readOutcomeOf r ≡ readIfOf (readingWith syntax) (now (s .entry)) state reader (member wanted) ⌝ }
 {
     let looked = look(s, state, syntax, reader);
     match looked {
         Looked::Byte(b, place, passed) => {
-            if set.contains(b) {
+            if wanted.contains(b) {
                 return read_answered(Read::Taken(b), 1, passed, moved(state, place + 1));
             }
             read_answered(Read::Declined, 0, passed, moved(state, place))
@@ -88,19 +88,19 @@ fn read_in(s: &[u8], state: State, syntax: Syntax, reader: Reader, set: ByteSet)
 }
 
 // Takes the byte under the cursor, uncounted, where it is in the set. Where it is not, the passing stays all the same.
-pub fn read_if(s: &[u8], state: State, reader: Reader, set: ByteSet) -> ReadAnswer
-    ensures { λ r. ⌜ readOutcomeOf r ≡ readIfOf (readingFor state reader) (now (s .entry)) state reader (member set) ⌝ }
+pub fn read_if(s: &[u8], state: State, reader: Reader, wanted: ByteSet) -> ReadAnswer
+    ensures { λ r. ⌜ readOutcomeOf r ≡ readIfOf (readingFor state reader) (now (s .entry)) state reader (member wanted) ⌝ }
 {
     let syntax = syntax_for(state, reader);
-    read_in(s, state, syntax, reader, set)
+    read_in(s, state, syntax, reader, wanted)
 }
 
 // The same for one byte.
 pub fn read_if_value_cased(s: &[u8], state: State, reader: Reader, value: u8) -> ReadAnswer
     ensures { λ r. ⌜ readOutcomeOf r ≡ readIfOf (readingFor state reader) (now (s .entry)) state reader (λ b. eqb b value) ⌝ }
 {
-    let set = ByteSet::from_byte(value);
-    read_if(s, state, reader, set)
+    let wanted = ByteSet::from_byte(value);
+    read_if(s, state, reader, wanted)
 }
 
 fn skip_answered(skipped: Skipped, taken: usize, passed: usize, state: State) -> SkipAnswer

@@ -49,12 +49,12 @@ pub(crate) fn flags_of(format: Format, reader: Reader) -> Flags
             consecutive: format.exponent_consecutive_digit_separator(),
         },
         Reader::Special => {
-            let any = format.special_digit_separator();
+            let special = format.special_digit_separator();
             Flags {
-                internal: any,
-                leading: any,
-                trailing: any,
-                consecutive: any,
+                internal: special,
+                leading: special,
+                trailing: special,
+                consecutive: special,
             }
         }
     }
@@ -194,9 +194,9 @@ fn passes(s: &[u8], syntax: Syntax, first: bool, at: usize) -> bool
     ensures { λ r. ⌜ r ≡ ruleOf (syntax .flags) first (previous (readingWith syntax) (now (s .entry)) at) (following (readingWith syntax) (now (s .entry)) at) ⌝ }
 {
     let named = rule::names_of(syntax.flags, first);
-    let previous = previous_neighbour(s, syntax, named.previous, at);
+    let earlier = previous_neighbour(s, syntax, named.previous, at);
     let next = next_neighbour(s, syntax, named.next, at);
-    rule::rule(syntax.flags, first, previous, next)
+    rule::rule(syntax.flags, first, earlier, next)
 }
 
 // Where a cursor lands that passes what it may at a place. Most bytes are no separator, so that compare stands first; a separator 0,

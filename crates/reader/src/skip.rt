@@ -11,7 +11,7 @@ ghost use Rattle.reader.specs.Reading.{readingWith, readingFor, hasAnyFl
 ghost use Rattle.reader.specs.State.{countOf, countSum};
 ghost use Rattle.reader.specs.Answer.{lookOutcome, LookFits, runOutcome, outcomeOf, countOutcomeOf, blockOutcomeOf};
 ghost use Rattle.reader.specs.Calls.{peekOf, nextOf, nextAllOf, takenFrom, shownCount, currentCountOf, peeked, refusalWith};
-ghost use Rattle.reader.specs.Block.{blockFrom, takeNOf, takeNPart};
+ghost use Rattle.reader.specs.Block.{blockFrom, takeNOf, BlockPart};
 use crate::passing::Syntax;
 use crate::passing::landing;
 use crate::passing::separator_landing;
@@ -241,11 +241,11 @@ pub(crate) fn take_run(
         let place = separator_landing(s, syntax, later, count == 0, at);
         let over = place - at;
         if s.len() <= place {
-            let all = passed + over;
+            let total = passed + over;
             return Run {
                 at: place,
                 count,
-                passed: all,
+                passed: total,
             };
         }
         let c = s[place];
@@ -373,7 +373,7 @@ pub fn take_n(s: &[u8], state: State, reader: Reader, n: usize) -> BlockAnswer
 
 // The part of the buffer that `take_n` takes, for the same arguments; empty for none or a refusal.
 pub fn take_n_part(s: &[u8], state: State, reader: Reader, n: usize) -> &[u8]
-    ensures { λ r. ⌜ now r ≡ takeNPart (readingFor state reader) (now (s .entry)) state reader n ⌝ }
+    ensures { λ r. ⌜ BlockPart (s .entry) state reader n r ⌝ }
 {
     let answer = take_n(s, state, reader, n);
     let told = answer.told;

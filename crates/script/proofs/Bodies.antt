@@ -24,8 +24,8 @@ pub record Reading (body : List ℕ) (place size number left : ℕ) : Type 0 whe
 
 pub reading-starts : (body : List ℕ) (place size : ℕ) → Reading body place size 0 size
 reading-starts body place size =
-    let none : size - size ≡ 0 = omega arith in
-    record { within = omega arith; told = rw none; fits = rw none (omega arith) }
+    let nothing : size - size ≡ 0 = omega arith in
+    record { within = omega arith; told = rw nothing; fits = rw nothing (omega arith) }
 
 module _ (body : List ℕ) (place size number left : ℕ) (inside : place + size ≤ length body) (here : Reading body place size number left) where
   module _ (more : 0 < left) where
@@ -53,7 +53,7 @@ module _ (body : List ℕ) (place size number left : ℕ) (inside : place + size
         omega (arith, here .fits)
 
   pub reading-ends : left ≤ 0 → (number ≡ numberAt body place size) × (number < 256 ^ size)
-  reading-ends none =
-      let all : size - left ≡ size = omega (arith, none) in
-      let start : place + left ≡ place = omega (arith, none) in
-      (rw (all, start) at (here .told), rw all at (here .fits))
+  reading-ends nothing =
+      let whole : size - left ≡ size = omega (arith, nothing) in
+      let start : place + left ≡ place = omega (arith, nothing) in
+      (rw (whole, start) at (here .told), rw whole at (here .fits))

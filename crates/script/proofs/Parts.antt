@@ -63,20 +63,20 @@ behind-body (b ∷ body) rest zero run ends = refl
 behind-body (b ∷ body) rest (suc k) run ends = behind-body body rest k run (λ less. ends (omega (arith, less)))
 
 pub drop-all : (l : List ℕ) (k : ℕ) → length l ≤ k → drop k l ≡ []
-drop-all [] k all = drop-nil k
-drop-all (b ∷ l) zero all = absurd (omega (arith, all))
-drop-all (b ∷ l) (suc k) all = drop-all l k (omega (arith, all))
+drop-all [] k past = drop-nil k
+drop-all (b ∷ l) zero past = absurd (omega (arith, past))
+drop-all (b ∷ l) (suc k) past = drop-all l k (omega (arith, past))
 
 drop-least : (l : List ℕ) (k : ℕ) → drop (min (length l) k) l ≡ drop k l
 drop-least l k = go (ltb (length l) k) refl where
   go : (b : Bool) → ltb (length l) k ≡ b → drop (min (length l) k) l ≡ drop k l
   go true e =
       let less = ltb-true (length l) k e in
-      let all : min (length l) k ≡ length l = omega (arith, less) in
-      rw (all, drop-length l, drop-all l k (omega (arith, less)))
+      let whole : min (length l) k ≡ length l = omega (arith, less) in
+      rw (whole, drop-length l, drop-all l k (omega (arith, less)))
   go false e =
-      let all : min (length l) k ≡ k = omega (arith, ltb-false (length l) k e) in
-      rw all
+      let whole : min (length l) k ≡ k = omega (arith, ltb-false (length l) k e) in
+      rw whole
 
 -- a record and what follows it
 record-turn : (n : ℕ) (body rest : List ℕ) (run : Run) → (length body < bodyLength (kindOf n) → rest ≡ [])

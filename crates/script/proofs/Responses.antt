@@ -39,8 +39,8 @@ module _ (text : List ℕ) (n b : ℕ) (whole : length text ≡ 4096) where
 
   pub text-full : {buffer out out' : List ℕ} {at : ℕ} {answer : Response'} → 4096 ≤ n
       → Responds (stops refusal.TextFull) buffer out at out' answer → Responds (addText (take n text) b) buffer out at out' answer
-  text-full none r =
-      let full : 4096 ≤ length (take n text) = simp length-take (omega (arith, none, whole)) in
+  text-full noroom r =
+      let full : 4096 ≤ length (take n text) = simp length-take (omega (arith, noroom, whole)) in
       rw (le-ltb (length (take n text)) 4096 full) r
 
 -- every call's kind is one digit
@@ -61,6 +61,6 @@ module _ (buffer : List ℕ) (k n : ℕ) (st : State) (r : Reader) (asked : Call
         → Responds (callResponse (take n buffer) st r asked) buffer out at after answer
     unfolding callResponse
     call-responds e w answered =
-        let all : k - 0 ≡ k = omega arith in
-        let reply-told : reply ≡ replyOf (answerTo readingOn (take n buffer) st (callBy asked r)) = rw (all, same) at told in
+        let whole-part : k - 0 ≡ k = omega arith in
+        let reply-told : reply ≡ replyOf (answerTo readingOn (take n buffer) st (callBy asked r)) = rw (whole-part, same) at told in
         responds answered (wrote-as w (rw (e, reply-told)) refl) (rw reply-told)

@@ -49,10 +49,10 @@ module _ {text₀ : List ℕ} {begun : Stage} (input : List ℕ) {ended : Bool} 
         }
 
 -- A buffer whose bytes from a place on are moved to its start, one by one.
-pub record Keeping (before : List ℕ) (from end : ℕ) (now : List ℕ) (i : ℕ) : Type 0 where
+pub record Keeping (before : List ℕ) (from end : ℕ) (held : List ℕ) (i : ℕ) : Type 0 where
   pub within : from + i ≤ end
-  pub size : length now ≡ length before
-  pub moved : now ≡ take i (drop from before) ++ drop i before
+  pub size : length held ≡ length before
+  pub moved : held ≡ take i (drop from before) ++ drop i before
 
 pub keeping-starts : (buffer : List ℕ) (from end : ℕ) → from ≤ end → Keeping buffer from end buffer 0
 keeping-starts buffer from end order = record { within = omega (arith, order); size = refl; moved = refl }
@@ -67,24 +67,24 @@ module _ (before : List ℕ) (from end : ℕ) (room : end ≤ length before) (i 
       let back : i + from ≡ from + i = omega arith in
       rw (place) (getD-append-add (take i (drop from before)) (drop i before) from 0 ∙ rw (getD-drop i before from 0, back, place))
 
-  pub keeping-goes-on : (now : List ℕ) → from + i < end → Keeping before from end now i
-      → Keeping before from end (set now i (getD now (from + i) 0)) (i + 1)
-  keeping-goes-on now more here =
+  pub keeping-goes-on : (held : List ℕ) → from + i < end → Keeping before from end held i
+      → Keeping before from end (set held i (getD held (from + i) 0)) (i + 1)
+  keeping-goes-on held more here =
       record {
         within = omega (arith, more);
         size = simp length-set (here .size);
         moved =
-            let v : getD now (from + i) 0 ≡ getD before (from + i) 0 = ap (λ (l : List ℕ). getD l (from + i) 0) (here .moved) ∙ byte-there (omega (arith, more)) in
+            let v : getD held (from + i) 0 ≡ getD before (from + i) 0 = ap (λ (l : List ℕ). getD l (from + i) 0) (here .moved) ∙ byte-there (omega (arith, more)) in
             let there : i < length (drop from before) = simp length-drop (omega (arith, more, room)) in
-            ap (λ (b : ℕ). set now i b) v
+            ap (λ (b : ℕ). set held i b) v
             ∙ ap (λ (l : List ℕ). set l i (getD before (from + i) 0)) (here .moved ∙ ap (λ (l : List ℕ). take i (drop from before) ++ l) (drop-cons before i 0 (omega (arith, more, room))))
             ∙ set-at (take i (drop from before)) (getD before i 0) (drop (suc i) before) (getD before (from + i) 0) i (start-length (omega (arith, more)))
             ∙ rw (add-one i, take-suc (drop from before) i 0 there, getD-drop from before i 0, append-assoc);
       }
 
-  pub keeping-ends : (now : List ℕ) → end ≤ from + i → Keeping before from end now i
-      → ((i ≡ end - from) × (length now ≡ length before)) × (take i now ≡ take i (drop from before))
-  keeping-ends now all here =
+  pub keeping-ends : (held : List ℕ) → end ≤ from + i → Keeping before from end held i
+      → ((i ≡ end - from) × (length held ≡ length before)) × (take i held ≡ take i (drop from before))
+  keeping-ends held all here =
       ((omega (arith, all, here .within), here .size), ap (take i) (here .moved) ∙ take-at (take i (drop from before)) (drop i before) i (start-length (here .within)))
 
 drop-of-take : (l : List ℕ) (used filled : ℕ) → drop used (take filled l) ≡ take (filled - used) (drop used l)

@@ -35,25 +35,25 @@ wrote-inside {before = before} {after = after} {bytes = bytes} {at = at} {end = 
     omega (arith, simp (length-take, length-append) at sizes, w .place, inside)
 
 -- A loop that writes bytes one by one: what it has written after `i` of them.
-pub record Copying (before : List ℕ) (at : ℕ) (bytes : List ℕ) (now : List ℕ) (i : ℕ) : Type 0 where
+pub record Copying (before : List ℕ) (at : ℕ) (bytes : List ℕ) (held : List ℕ) (i : ℕ) : Type 0 where
   pub within : i ≤ length bytes
-  pub wrote : Wrote before at (take i bytes) now (at + i)
+  pub wrote : Wrote before at (take i bytes) held (at + i)
 
 pub copy-starts : (out : List ℕ) (at : ℕ) (bytes : List ℕ) → Copying out at bytes out 0
 copy-starts out at bytes = record { within = omega arith; wrote = wrote-as (wrote-nothing out at) refl (omega arith) }
 
-pub copy-goes-on : (before : List ℕ) (at : ℕ) (bytes now : List ℕ) (i : ℕ) → at + length bytes ≤ length before → i < length bytes
-    → Copying before at bytes now i → Copying before at bytes (set now (at + i) (getD bytes i 0)) (i + 1)
-copy-goes-on before at bytes now i room more here =
+pub copy-goes-on : (before : List ℕ) (at : ℕ) (bytes held : List ℕ) (i : ℕ) → at + length bytes ≤ length before → i < length bytes
+    → Copying before at bytes held i → Copying before at bytes (set held (at + i) (getD bytes i 0)) (i + 1)
+copy-goes-on before at bytes held i room more here =
     record {
       within = omega (arith, more);
       wrote =
           wrote-as
-          (wrote-then (here .wrote) (wrote-byte now (at + i) (getD bytes i 0) (omega (arith, here .wrote .size))))
+          (wrote-then (here .wrote) (wrote-byte held (at + i) (getD bytes i 0) (omega (arith, here .wrote .size))))
           (rw (add-one i, take-suc bytes i 0 more))
           (omega arith);
     }
 
-pub copy-ends : (before : List ℕ) (at : ℕ) (bytes now : List ℕ) (i : ℕ) → length bytes ≤ i → Copying before at bytes now i
-    → Wrote before at bytes now (at + i)
-copy-ends before at bytes now i all here = rw (take-all i bytes all) at (here .wrote)
+pub copy-ends : (before : List ℕ) (at : ℕ) (bytes held : List ℕ) (i : ℕ) → length bytes ≤ i → Copying before at bytes held i
+    → Wrote before at bytes held (at + i)
+copy-ends before at bytes held i past here = rw (take-all i bytes past) at (here .wrote)

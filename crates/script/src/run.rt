@@ -128,8 +128,8 @@ fn call_line(
     requires { ⌜ at + 86 ≤ length (now out) ⌝ }
     ensures { λ r. ⌜ Responds (callResponse (take n (now (text .entry))) state reader call) (now (text .entry)) (now (out .entry)) at (now (out .exit)) r ⌝ }
 {
-    let length = text_length(text, n);
-    let reply = made(&text[0..length], state, reader, call);
+    let size = text_length(text, n);
+    let reply = made(&text[0..size], state, reader, call);
     let end = reply_line(out, at, number(call), reply);
     let next = reply.state;
     responded(Stage::Opened(n, next), end)

@@ -36,7 +36,7 @@ module _ (c : ℕ) where
 module _ (digits : List ℕ) where
   pub empty : length digits ≤ 0 → Nothing ≡ readHex digits
   unfolding readHex
-  empty none = simp (le-ltb 0 (length digits) none)
+  empty nothing = simp (le-ltb 0 (length digits) nothing)
 
   pub long : 16 < length digits → Nothing ≡ readHex digits
   unfolding readHex
@@ -44,7 +44,7 @@ module _ (digits : List ℕ) where
 
   pub read-hex : 0 < length digits → length digits ≤ 16 → readHex digits ≡ readFrom 0 digits
   unfolding readHex
-  read-hex some few = simp (lt-ltb 0 (length digits) some, le-leb (length digits) 16 few)
+  read-hex filled few = simp (lt-ltb 0 (length digits) filled, le-leb (length digits) 16 few)
 
   pub read-end : (value i : ℕ) → length digits ≤ i → readFrom value (drop i digits) ≡ Value value
   unfolding readFrom

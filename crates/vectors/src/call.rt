@@ -151,15 +151,15 @@ fn made(kind: u8, s: &[u8], state: State, who: Reader, value: u8) -> Outcome {
 pub fn repeat(what: u64, format: Format, bytes: u64) -> Outcome {
     let buffer = buffer_of(bytes);
     let all: &[u8] = &buffer;
-    let length = byte_of(what, 2) as usize;
-    if length > all.len() {
+    let size = byte_of(what, 2) as usize;
+    if size > all.len() {
         return Outcome::NoCall;
     }
     let who = reader_named(byte_of(what, 1));
     match who {
         Named::Known(reader) => made(
             byte_of(what, 0),
-            &all[0..length],
+            &all[0..size],
             state_of(what, format),
             reader,
             byte_of(what, 7),

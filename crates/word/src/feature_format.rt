@@ -343,9 +343,9 @@ pub fn format_error_impl(format: Format) -> Error
     if !control.is_success() {
         return control;
     }
-    let flag = flag_error(format);
-    if !flag.is_success() {
-        return flag;
+    let flags = flag_error(format);
+    if !flags.is_success() {
+        return flags;
     }
     consecutive_error(format)
 }

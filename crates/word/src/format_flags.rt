@@ -89,11 +89,11 @@ pub(crate) fn bits_at(half: u64, shift: u32, width: u32) -> u64
 }
 
 // Whether a bit is set, at any position; past the 64 bits none is.
-pub fn bit_at(bits: u64, position: u32) -> bool
-    ensures { λ r. ⌜ r ≡ bit bits position ⌝ }
+pub fn bit_at(half: u64, position: u32) -> bool
+    ensures { λ r. ⌜ r ≡ bit half position ⌝ }
 {
     if position < 64 {
-        return bits_at(bits, position, 1) == 1;
+        return bits_at(half, position, 1) == 1;
     }
     false
 }

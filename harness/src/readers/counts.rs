@@ -1,9 +1,11 @@
 //! `current_count`: the reader's own count, or what the crate shows in place of
-//! it. The special reader has no count, so it is not compared.
+//! it. The special reader has no count, so it is not compared. A reader with the
+//! consecutive flag alone is asked too: it has no rule, and yet shows its count.
 
 use super::answer::CountAnswer;
 use super::call::{Case, State, COUNTED};
 use super::compiled::Readers;
+use super::sets::C;
 use super::words::compiled;
 use super::{draw, library};
 use crate::group::{Group, Report};
@@ -18,6 +20,7 @@ const DRAWN: u32 = 1_000;
 pub fn run(report: &mut Report, seed: u64) {
     let mut group = Group::new("readers, current_count");
     let mut rng = Rng::new(seed, "reader counts");
+    assert!(COUNTED.into_iter().all(has_consecutive_alone));
     for &rust in compiled() {
         for reader in COUNTED {
             for state in small_states() {
@@ -31,6 +34,11 @@ pub fn run(report: &mut Report, seed: u64) {
         }
     }
     report.close(group);
+}
+
+fn has_consecutive_alone(reader: u8) -> bool {
+    let mut words = compiled().iter().map(|rust| rust.word());
+    words.any(|word| word.reader_set(reader) == C)
 }
 
 fn compare(group: &mut Group, rust: &dyn Readers, buffer: &[u8], state: State, reader: u8) {

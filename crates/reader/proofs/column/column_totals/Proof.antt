@@ -1,9 +1,11 @@
 -- `reader::column::column_totals` meets its contract: the sums go on by a stretch of ordinary cells or by one cell (proofs/Stretches.antt).
 -- Assumes nothing.
+use mathlib.Core.Path.{sym, _∙_}
 use Prim.Native.Nat.{_-_}
 use native.Mathlib.Omega.{arith}
 use borrow.Author.Needs.{needs}
 use lib.ListN.{length}
+use Rattle.reader.proofs.ColumnLaws.{quick-told}
 use Rattle.reader.proofs.Stretches.{Summed, sums-start, sums-stretch, sums-cell, sums-end, refused-alike}
 use Rattle.reader.proofs.column.column_totals.Statement.{statement}
 use Rattle.reader.proofs.column.column_totals.Tie as tie
@@ -25,7 +27,8 @@ loop-holds c =
 past-ordinary-requires : tie.Need-past-ordinary-requires Inv-loop μ-loop
 past-ordinary-requires c κs =
     let l = c .before in
-    (l .before .is-quick .ensures, l .loop .inv .cells, l .loop .inv .inside)
+    let a = l .before .before .before .before .args in
+    (λ q. quick-told (a .syntax) (a .reader) (a .s .now) (a .filled) (sym (l .before .is-quick .ensures) ∙ q), l .loop .inv .cells, l .loop .inv .inside)
 
 sub-stretch-totals : tie.Need-sub-stretch-totals Inv-loop μ-loop
 sub-stretch-totals c = omega (arith, c .before .before .past-ordinary .ensures .ordered)

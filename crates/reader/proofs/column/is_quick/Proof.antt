@@ -1,40 +1,33 @@
--- `reader::column::is_quick` meets its contract: the tests are those of the record, and without a counted pair no two separators stand
--- side by side. Assumes nothing.
-use mathlib.Core.Path.{sym, _∙_}
-use mathlib.Core.Bool.{false≢true}
-use native.Mathlib.Omega.{arith}
+-- `reader::column::is_quick` meets its contract: its tests are those of the definition, one after the other. Assumes nothing.
+use mathlib.Core.Path.{sym}
 use borrow.Author.Needs.{needs}
-use borrow.Author.Tests.{eqb-true, not-true, not-false}
-use Rattle.reader.proofs.ColumnLaws.{quick-by-flags, quick-by-buffer}
+use borrow.Author.Tests.{not-true, not-false}
+use Rattle.reader.specs.Ordinary.{isQuick}
 use Rattle.reader.proofs.column.is_quick.Statement.{statement}
 use Rattle.reader.proofs.column.is_quick.Tie as tie
 
-counts-digits-requires : tie.Need-counts-digits-requires
-counts-digits-requires c κs = search needs
+serves-requires : tie.Need-serves-requires
+serves-requires c κs = search needs
 
 returns : tie.Need-returns
-returns c q = absurd (false≢true q)
+unfolding isQuick
+returns c = let v = c .before .serves in rw (sym (v .ensures), not-true (v .result) (c .if1 .taken))
 
 returns-2 : tie.Need-returns-2
-returns-2 c q = absurd (false≢true q)
-
-char-is-digit-by-range-requires : tie.Need-char-is-digit-by-range-requires
-char-is-digit-by-range-requires c κs = search needs
+unfolding isQuick
+returns-2 c =
+    let i = c .before .before in
+    let v = i .before .serves in
+    rw (sym (v .ensures), not-false (v .result) (i .if1 .left), c .if2 .taken)
 
 returns-3 : tie.Need-returns-3
-returns-3 c q = absurd (false≢true q)
-
-returns-4 : tie.Need-returns-4
-returns-4 c q =
-    let l = c .before .before in
-    let d = l .before in
-    let z = d .before in
-    let k = z .before .before in
-    let a = k .before .before .before .args in
-    quick-by-flags (a .syntax) (a .reader) (a .s .now) (sym (k .before .counts-digits .ensures) ∙ not-false _ (k .if1 .left)) (omega (arith, z .if2 .left)) (sym (d .char-is-digit-by-range .ensures) ∙ l .if3 .left) (not-true _ (c .if4 .taken))
-
-returns-5 : tie.Need-returns-5
-returns-5 c q = absurd (false≢true q)
+unfolding isQuick
+returns-3 c =
+    let f = c .before in
+    let i = f .before .before in
+    let v = i .before .serves in
+    let a = i .before .before .before .args in
+    rw (sym (v .ensures), not-false (v .result) (i .if1 .left), f .if2 .left, not-true (a .filled) (c .if3 .taken))
 
 double-pairs-requires : tie.Need-double-pairs-requires
 double-pairs-requires c κs = search needs
@@ -42,28 +35,25 @@ double-pairs-requires c κs = search needs
 count-pairs-requires : tie.Need-count-pairs-requires
 count-pairs-requires c κs = search needs
 
-returns-6 : tie.Need-returns-6
-returns-6 c q =
+returns-4 : tie.Need-returns-4
+unfolding isQuick
+returns-4 c =
     let p = c .before in
-    let l = p .before .before .before .before in
-    let d = l .before in
-    let z = d .before in
-    let k = z .before .before in
-    let a = k .before .before .before .args in
-    let counted = rw (p .double-pairs .ensures) at (c .count-pairs .ensures .0) in
-    quick-by-buffer (a .syntax) (a .reader) (a .s .now) (sym (k .before .counts-digits .ensures) ∙ not-false _ (k .if1 .left)) (omega (arith, z .if2 .left)) (sym (d .char-is-digit-by-range .ensures) ∙ l .if3 .left) (sym counted ∙ eqb-true _ _ q)
+    let e = p .before in
+    let f = e .before in
+    let i = f .before .before in
+    let v = i .before .serves in
+    let a = i .before .before .before .args in
+    rw (c .count-pairs .ensures .0, p .double-pairs .ensures, sym (v .ensures), not-false (v .result) (i .if1 .left), f .if2 .left, not-false (a .filled) (e .if3 .left))
 
 pub is-quick-spec : {M : Type 1} → statement M
 is-quick-spec =
     tie.close
     (tie.spec
-    counts-digits-requires
+    serves-requires
     returns
     returns-2
-    char-is-digit-by-range-requires
     returns-3
-    returns-4
-    returns-5
     double-pairs-requires
     count-pairs-requires
-    returns-6)
+    returns-4)

@@ -18,7 +18,7 @@ returns : tie.Need-returns
 returns c =
     let x = c .before in
     let a = x .before .before .args in
-    c .read-in .ensures ∙ ap (λ (y : Syntax). readIfOf (readingWith y) (a .s .now) (a .state) (a .reader) (member (a .set))) (x .syntax-for .ensures)
+    c .read-in .ensures ∙ ap (λ (y : Syntax). readIfOf (readingWith y) (a .s .now) (a .state) (a .reader) (member (a .wanted))) (x .syntax-for .ensures)
 
 pub read-if-spec : {M : Type 1} → statement M
 read-if-spec = tie.close (tie.spec syntax-for-requires read-in-requires returns)

@@ -39,7 +39,7 @@ returns c =
     rw (c .read-answered .ensures, c .before .moved .ensures)
     (reads-byte m (a .s .now) (a .state) (a .reader) _ _ _
     (seen-as m (a .s .now) (a .state) (a .reader) _ _ (l .look .ensures .0) (k .looked .given .1))
-    (member (a .set)) (sym (i .before .contains .ensures) ∙ i .if1 .taken))
+    (member (a .wanted)) (sym (i .before .contains .ensures) ∙ i .if1 .taken))
 
 moved-requires-2 : tie.Need-moved-requires-2
 moved-requires-2 c κs = search needs
@@ -72,7 +72,7 @@ returns-2 c =
     rw (c .read-answered2 .ensures, c .before .moved2 .ensures)
     (declines-byte m (a .s .now) (a .state) (a .reader) _ _ _
     (seen-as m (a .s .now) (a .state) (a .reader) _ _ (l .look .ensures .0) (k .looked .given .1))
-    (member (a .set)) (sym (i .before .contains .ensures) ∙ i .if1 .left))
+    (member (a .wanted)) (sym (i .before .contains .ensures) ∙ i .if1 .left))
 
 returns-3 : tie.Need-returns-3
 returns-3 c =
@@ -82,7 +82,7 @@ returns-3 c =
     let m = readingWith (a .syntax) in
     rw (c .read-answered3 .ensures, c .before .moved3 .ensures)
     (declines-end m (a .s .now) (a .state) (a .reader) _ _
-    (seen-as m (a .s .now) (a .state) (a .reader) _ _ (l .look .ensures .0) (k .looked2 .given .1)) (member (a .set)))
+    (seen-as m (a .s .now) (a .state) (a .reader) _ _ (l .look .ensures .0) (k .looked2 .given .1)) (member (a .wanted)))
 
 returns-4 : tie.Need-returns-4
 returns-4 c =
@@ -92,7 +92,7 @@ returns-4 c =
     let m = readingWith (a .syntax) in
     rw (c .read-answered4 .ensures)
     (reads-refused m (a .s .now) (a .state) (a .reader) (k .looked3 .given .0 .0)
-    (seen-as m (a .s .now) (a .state) (a .reader) _ _ (l .look .ensures .0) (k .looked3 .given .1)) (member (a .set)))
+    (seen-as m (a .s .now) (a .state) (a .reader) _ _ (l .look .ensures .0) (k .looked3 .given .1)) (member (a .wanted)))
 
 pub read-in-spec : {M : Type 1} → statement M
 read-in-spec =

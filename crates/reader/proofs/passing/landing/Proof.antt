@@ -18,8 +18,8 @@ returns-2 c = (stays-on-other _ _ _ _ (omega arith) (no-separator _ _ (c .if2 .t
 
 returns-3 : tie.Need-returns-3
 returns-3 c =
-    let none : c .before .before .before .before .before .args .syntax .separator ≡ 0 = omega (arith, c .if3 .taken) in
-    (stays-on-other _ _ _ _ (omega arith) (no-separator-at-all _ _ none), search needs)
+    let unset : c .before .before .before .before .before .args .syntax .separator ≡ 0 = omega (arith, c .if3 .taken) in
+    (stays-on-other _ _ _ _ (omega arith) (no-separator-at-all _ _ unset), search needs)
 
 passes-requires : tie.Need-passes-requires
 passes-requires c κs = search needs

@@ -14,8 +14,8 @@ use Rattle.reader.proofs.passing.later_landing.Tie as tie
 returns : tie.Need-returns
 returns c =
     let a = c .before .before .before .args in
-    let none : a .syntax .separator ≡ 0 = omega (arith, c .if1 .taken) in
-    (stays-on-other _ _ _ _ (c .before .before .before .pre .1) (no-separator-at-all _ _ none), search needs)
+    let unset : a .syntax .separator ≡ 0 = omega (arith, c .if1 .taken) in
+    (stays-on-other _ _ _ _ (c .before .before .before .pre .1) (no-separator-at-all _ _ unset), search needs)
 
 returns-2 : tie.Need-returns-2
 returns-2 c =

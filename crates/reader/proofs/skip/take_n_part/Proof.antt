@@ -1,7 +1,7 @@
 -- `reader::skip::take_n_part` meets its contract: the part lies between the two cursors. Assumes nothing.
 use native.Mathlib.Omega.{arith}
 use Rattle.reader.specs.Reading.{readingFor}
-use Rattle.reader.proofs.Blocks.{part-within, part-taken, part-none}
+use Rattle.reader.proofs.Blocks.{part-within, part-of-block, part-of-none}
 use borrow.Author.Needs.{needs}
 use Rattle.reader.proofs.skip.take_n_part.Statement.{statement}
 use Rattle.reader.proofs.skip.take_n_part.Tie as tie
@@ -55,19 +55,19 @@ returns : tie.Need-returns
 returns c =
     let d = c .before .before .before .before in
     let a = d .before .before .args in
-    part-taken (readingFor (a .state) (a .reader)) (a .s .now) (a .state) (a .reader) (a .n) (d .take-n .result) (d .take-n .ensures) (c .before .enum-told .given .1)
+    part-of-block (a .s) (a .state) (a .reader) (a .n) (d .take-n .result) (d .take-n .ensures) (c .result .given .0) (c .before .enum-told .given .1)
 
 returns-2 : tie.Need-returns-2
 returns-2 c =
     let d = c .before .before .before .before in
     let a = d .before .before .args in
-    part-none (readingFor (a .state) (a .reader)) (a .s .now) (a .state) (a .reader) (a .n) (d .take-n .result) (d .take-n .ensures) (rw (c .before .enum-told2 .given .1))
+    part-of-none (a .s) (a .state) (a .reader) (a .n) (d .take-n .result) (d .take-n .ensures) (c .result2 .given .0) (rw (c .before .enum-told2 .given .1))
 
 returns-3 : tie.Need-returns-3
 returns-3 c =
     let d = c .before .before .before .before .before in
     let a = d .before .before .args in
-    part-none (readingFor (a .state) (a .reader)) (a .s .now) (a .state) (a .reader) (a .n) (d .take-n .result) (d .take-n .ensures) (rw (c .before .before .block .given .1))
+    part-of-none (a .s) (a .state) (a .reader) (a .n) (d .take-n .result) (d .take-n .ensures) (c .result3 .given .0) (rw (c .before .before .block .given .1))
 
 pub take-n-part-spec : {M : Type 1} → statement M
 take-n-part-spec =

@@ -74,9 +74,9 @@ separator-landing-requires c κs =
 sub-over : tie.Need-sub-over Inv-loop μ-loop
 sub-over c = omega (arith, c .separator-landing .ensures .0)
 
-add-all : tie.Need-add-all Inv-loop μ-loop
+add-total : tie.Need-add-total Inv-loop μ-loop
 unfolding readingWith
-add-all c =
+add-total c =
     let l = c .before .before .before .before .before in
     let d = l .before .before in
     let k = d .before .before in
@@ -165,7 +165,7 @@ take-run-spec =
     loop-again
     separator-landing-requires
     sub-over
-    add-all
+    add-total
     returns
     shared-slice-read-c
     count-past-requires-2

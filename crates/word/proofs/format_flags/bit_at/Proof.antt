@@ -14,7 +14,7 @@ unfolding bit
 returns c = rw (c .bits-at .ensures)
 
 returns-2 : tie.Need-returns-2
-returns-2 c = sym (no-bit-past (c .before .args .bits) (c .before .args .position) (search needs) (c .if1 .left))
+returns-2 c = sym (no-bit-past (c .before .args .half) (c .before .args .position) (search needs) (c .if1 .left))
 
 pub bit-at-spec : {M : Type 1} → statement M
 bit-at-spec = tie.close (tie.spec bits-at-requires returns returns-2)

@@ -1,7 +1,7 @@
 -- `reader::bytes::Bytes::as_slice` meets its contract: a walk of its MIR, by hand. The struct is taken apart (proofs/Parted.antt), and `bytes::rest`, which is covered, returns the part. All that the proof knows of it is that it meets its contract.
 -- Assumes nothing.
-use Rattle.reader.proofs.Walk.{_≡_, refl, ℕ, List, [], _∷_, URA, named, Val, SProp, ent, emp, via, fst∗, snd∗, exE, id⊢, Lft, Share, ftrue, flft, Memory, Routine, Heap, Calls, Loops, WpFn, Atoms, sem, Fun, fact, givenOf, tables, Given, ‵, raw, _⊛_, ⋆, some, later, _$_, _∵_, !, qed, by, move, use1, split, pick, suffices, frame, await, done, whole, sub, look-in, look, init, forget, stop, fld, from, load, of-opd, and-then, no-more, assigns, land, returns, enter, alloc1, alloc0, params1, pass1, pass0, free1, free0, FmC, owns, Is, shows, u8, RefT, now, ShrSlice, shr-slice-lawful, peeks, heard, nothing, Contract, Triple, calls-at, ensured, lasts, Vals, onEntry, tripleOf, cited, says, Stays, stay-none, walkOf, goes-none, ends-at, yes}
-use Rattle.reader.specs.Bytes.{restOf}
+use Rattle.reader.proofs.Walk.{_≡_, refl, ℕ, List, [], _∷_, URA, named, Val, SProp, ent, emp, via, fst∗, snd∗, exE, id⊢, Lft, Share, ftrue, flft, Memory, Routine, Heap, Calls, Loops, WpFn, Atoms, sem, Fun, fact, givenOf, tables, Given, ‵, raw, _⊛_, ⋆, some, later, _$_, _∵_, !, qed, by, move, use1, split, pick, suffices, frame, await, done, whole, sub, look-in, look, init, forget, stop, fld, from, load, of-opd, and-then, no-more, assigns, land, returns, enter, alloc1, alloc0, params1, pass1, pass0, free1, free0, FmC, owns, Is, shows, u8, RefT, ShrSlice, shr-slice-lawful, peeks, heard, nothing, Contract, Triple, calls-at, ensured, lasts, Vals, onEntry, tripleOf, cited, says, Stays, stay-none, walkOf, goes-none, ends-at, yes}
+use Rattle.reader.specs.Bytes.{Rest}
 use Rattle.reader.specs.declared.bytes.Bytes.{Bytes}
 use Rattle.reader.proofs.state.State.Laws as S′
 use Rattle.reader.proofs.Close.{concluded}
@@ -35,7 +35,7 @@ module _ {M : Type 1} (𝓤 : URA M) (H : Heap 𝓤) (A : Atoms 𝓤) (W : Given
   to = (((κ, tt), (q, tt), tt, (d .slc, (d .state, tt)), (v d ∷ [], (stateVal (d .state) ∷ [], tt))), tt)
 
   abbrev Known : RefT (List ℕ) → Type 0
-  Known r = now r ≡ restOf (now (d .slc)) (d .state)
+  Known r = Rest (d .slc) (d .state) r
 
   said : (r : RefT (List ℕ)) → ent 𝓤 (ensured 𝓤 H A g.ended (g.clauses 𝓤 H A mem run) (κ, tt) (d .slc, (d .state, tt)) tt r) (fact 𝓤 (Known r))
   said r = exE 𝓤 _ (λ ws. snd∗ 𝓤 (sem 𝓤 H A (lasts g.ended (κ, tt) (d .slc, (d .state, tt)) ws)) (fact 𝓤 (Known r)))

@@ -1,8 +1,8 @@
 -- `reader::bytes::Bytes::take_n_part` meets its contract: a walk of its MIR, by hand. The struct is taken apart (proofs/Parted.antt), and `skip::take_n_part`, which is covered, returns the part. All that the proof knows of it is that it meets its contract.
 -- Assumes nothing.
 use Rattle.reader.proofs.Walk.EL
-use Rattle.reader.proofs.Walk.{_≡_, refl, ℕ, _<_, _^_, List, [], _∷_, URA, named, w64, Val, vint, SProp, ent, emp, via, fst∗, snd∗, exE, id⊢, Lft, Share, ftrue, flft, Memory, Routine, Heap, Calls, Loops, WpFn, Atoms, sem, Fun, fact, givenOf, tables, Given, ‵, raw, _⊛_, ⋆, some, later, _$_, _∵_, !, qed, by, move, use1, split, pick, fjoin, suffices, frame, await, done, whole, sub, look-in, look, init, forget, stop, fld, from, load, of-opd, and-then, no-more, assigns, land, returns, enter, alloc1, alloc0, params1, pass1, pass0, free1, free0, FmC, owns, Is, shows, uint-vals, uint-tells, uint-makes, u8, usize, RefT, now, ShrSlice, shr-slice-lawful, owned, peeks, heard, nothing, Contract, Triple, calls-at, ensured, lasts, Vals, onEntry, tripleOf, cited, says, Stays, stay-none, walkOf, goes-none, ends-at, yes}
-use Rattle.reader.specs.Bytes.{partBytes}
+use Rattle.reader.proofs.Walk.{_≡_, refl, ℕ, _<_, _^_, List, [], _∷_, URA, named, w64, Val, vint, SProp, ent, emp, via, fst∗, snd∗, exE, id⊢, Lft, Share, ftrue, flft, Memory, Routine, Heap, Calls, Loops, WpFn, Atoms, sem, Fun, fact, givenOf, tables, Given, ‵, raw, _⊛_, ⋆, some, later, _$_, _∵_, !, qed, by, move, use1, split, pick, fjoin, suffices, frame, await, done, whole, sub, look-in, look, init, forget, stop, fld, from, load, of-opd, and-then, no-more, assigns, land, returns, enter, alloc1, alloc0, params1, pass1, pass0, free1, free0, FmC, owns, Is, shows, uint-vals, uint-tells, uint-makes, u8, usize, RefT, ShrSlice, shr-slice-lawful, owned, peeks, heard, nothing, Contract, Triple, calls-at, ensured, lasts, Vals, onEntry, tripleOf, cited, says, Stays, stay-none, walkOf, goes-none, ends-at, yes}
+use Rattle.reader.specs.Block.{BlockPart}
 use Rattle.reader.specs.declared.bytes.Bytes.{Bytes}
 use Rattle.reader.specs.declared.state.Reader.{Reader}
 use Rattle.reader.proofs.Close.{concluded}
@@ -47,7 +47,7 @@ module _ {M : Type 1} (𝓤 : URA M) (H : Heap 𝓤) (A : Atoms 𝓤) (W : Given
   to = (((κ, tt), (q, tt), tt, (d .slc, (d .state, (r, (n, tt)))), (v d ∷ [], (stateVal (d .state) ∷ [], at .1))), tt)
 
   abbrev Known : RefT (List ℕ) → Type 0
-  Known p = now p ≡ partBytes d r n
+  Known p = BlockPart (d .slc) (d .state) r n p
 
   said : (p : RefT (List ℕ)) → ent 𝓤 (ensured 𝓤 H A g.ended (g.clauses 𝓤 H A mem run) (κ, tt) (d .slc, (d .state, (r, (n, tt)))) tt p) (fact 𝓤 (Known p))
   said p = exE 𝓤 _ (λ ws. snd∗ 𝓤 (sem 𝓤 H A (lasts g.ended (κ, tt) (d .slc, (d .state, (r, (n, tt)))) ws)) (fact 𝓤 (Known p)))
