@@ -1,2 +1,4 @@
 pub mod Hex
+pub mod Packed
+pub mod Call
 pub mod Replay

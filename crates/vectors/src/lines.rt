@@ -1,7 +1,7 @@
 // Collects bytes into lines, however the reads cut them, and settles each line.
 use crate::record::Record;
 use crate::record::parse;
-use crate::replay::compare_any;
+use crate::replay::compare;
 use crate::report;
 use crate::tally::Tally;
 use crate::tally::one_more;
@@ -71,7 +71,7 @@ fn parse_filled(line: &[u8], filled: usize) -> Record {
 fn end_line(line: &[u8], progress: Progress) -> Progress {
     let parsed = parse_filled(line, progress.filled);
     let kind = parsed.kind;
-    let verdict = compare_any(parsed);
+    let verdict = compare(parsed);
     let ended = one_more(progress.ended);
     let told = report::tell(ended, verdict, progress.told);
     Progress {
