@@ -75,7 +75,7 @@ returns-6 c = rw (c .before .before .match .keys6) (ap Packed (c .pack-block .en
 
 returns-7 : tie.Need-returns-7
 unfolding answerTo
-returns-7 c = rw (c .before .before .match .keys7) (ap Packed (c .pack-part .ensures ∙ ap packedPart (c .before .take-n-part .ensures)))
+returns-7 c = rw (c .before .before .match .keys7) (ap Packed (c .pack-part .ensures ∙ ap packedPart (c .before .take-n-part .ensures .bytes)))
 
 returns-8 : tie.Need-returns-8
 unfolding answerTo
