@@ -3,10 +3,11 @@ ghost use Prim.Native.Nat.{_<_};
 ghost use mathlib.Core.Path.{_≡_};
 ghost use Rattle.vectors.specs.Packed.{byteOf, withByte, lowByteBehind};
 
+// A packed number without its highest byte is below it.
 const MODULUS: u64 = 0x100_0000_0000_0000;
 
 // Byte `place` of a packed number, counted from the highest.
-pub fn byte_of(packed: u64, place: u32) -> u8
+pub(crate) fn byte_of(packed: u64, place: u32) -> u8
     requires { ⌜ place < 8 ⌝ }
     ensures { λ r. ⌜ r ≡ byteOf packed place ⌝ }
 {
@@ -15,14 +16,14 @@ pub fn byte_of(packed: u64, place: u32) -> u8
 }
 
 // With one more byte behind the lowest; the highest one is lost.
-pub fn with_byte(packed: u64, next: u8) -> u64
+pub(crate) fn with_byte(packed: u64, next: u8) -> u64
     ensures { λ r. ⌜ r ≡ withByte packed next ⌝ }
 {
     (packed % MODULUS) * 256 + next as u64
 }
 
 // Likewise with a number's lowest byte.
-pub fn pushed(packed: u64, next: usize) -> u64
+pub(crate) fn pushed(packed: u64, next: usize) -> u64
     ensures { λ r. ⌜ r ≡ lowByteBehind packed next ⌝ }
 {
     with_byte(packed, (next % 256) as u8)
