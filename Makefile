@@ -1,6 +1,7 @@
 # make run    the script program: a call script on standard input, a line for each answer on standard output
 # make test   the gate: rt ci (proofs, must-fail edits, programs), the edits of refused/, and every comparison
 # make compare far more comparisons of the readers with the Rust crate than the gate makes; SEED=0x1234 draws others
+# make mutants wrong bodies of every crate, which the prover has to refuse; N=200 SEED=1 CRATE=word FILE=.. FUNCTION=.. (wants Python 3)
 # make boundary-valgrind, boundary-sanitize
 #             arbitrary arguments through every function from C, as the gate does it, watched by valgrind or by sanitizers
 # make fuzz   the same checks under libFuzzer (wants clang), for a minute
@@ -12,7 +13,7 @@
 RT := $(shell tools/find-rt)
 PAWHETINO_LIB ?= target/staticlib/libexport.a
 
-.PHONY: run test compare boundary-valgrind boundary-sanitize fuzz replay bench growth lib harness record
+.PHONY: run test compare mutants boundary-valgrind boundary-sanitize fuzz replay bench growth lib harness record
 
 # What is said while the program is built goes to standard error: standard output is the script's.
 run:
@@ -39,6 +40,13 @@ harness: lib
 # Some minutes. The seed is printed, and without SEED always the same.
 compare: harness
 	target/harness/harness compare $(SEED)
+
+# Minutes: some ten seconds a mutant on two cores, and each crate is proved in a copy first.
+mutants:
+	@tools/need-rt
+	tools/test-mutants
+	$(RT) check
+	tools/mutants --n $(or $(N),40) --seed $(or $(SEED),1) --crate '$(CRATE)' --file '$(FILE)' --function '$(FUNCTION)'
 
 # Fewer inputs than in the gate: a function takes some twenty times as long here.
 boundary-valgrind: lib

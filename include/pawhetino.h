@@ -1,13 +1,15 @@
 /* Pawhetino: the functions of target/staticlib/libexport.a for C and C++.
  *
- * Every function takes numbers, bytes and places for numbers, and is proved to answer as document 01 defines for all arguments.
- * A format word of 128 bits comes as two halves: bit 0 is the lowest of lo, bit 64 the lowest of hi.
+ * Every function takes numbers, bytes and places for numbers, and is proved to answer as document 01 defines for all their values.
+ * The caller sees to the pointers: none is null, also where len or cells is 0; each is aligned for its type, and valid for len bytes
+ * (s), cells numbers (ends) or one (every other); no place that is written overlaps another place, s or ends; and nobody else writes
+ * to any of them during the call. A format word of 128 bits comes as two halves: bit 0 is the lowest of lo, bit 64 the lowest of hi.
  *
- * A reader call takes the buffer s of len bytes, which may be empty but not null, and places that do not overlap each other or s.
- * reader is 0 for the integer reader, 1 fraction, 2 exponent, 3 special. The state comes and goes in *cursor, *integer, *fraction
- * and *exponent. Returned is 0, or 16, 17 or 12 to 14 where the call is refused, or 19 for another reader; a zero skip and a block
- * take have no special reader and answer 18 for it. *has_byte is 1 with the byte in *byte, or 0 with *byte left as it was; *taken
- * and *passed count bytes taken and separators passed. A refused call leaves the state and *byte, and writes 0 to the other three.
+ * A reader call takes the buffer s of len bytes. reader is 0 for the integer reader, 1 fraction, 2 exponent, 3 special. The state
+ * comes and goes in *cursor, *integer, *fraction and *exponent. Returned is 0, or 16, 17 or 12 to 14 where the call is refused, or
+ * 19 for another reader; a zero skip and a block take have no special reader and answer 18 for it. *has_byte is 1 with the byte in
+ * *byte, or 0 with *byte left as it was; *taken and *passed count bytes taken and separators passed. A refused call leaves the
+ * state and *byte, and writes 0 to the other three.
  */
 #ifndef PAWHETINO_H
 #define PAWHETINO_H

@@ -1,6 +1,8 @@
 // What Rust and C link: the checks of a format word and the reader calls, on numbers only. The word of 128 bits comes as two halves
 // of 64, a state as its numbers and a reader as a byte. An answer is a number of document 01's table, or 19 where a byte names no
-// reader. No function asks anything of its caller.
+// reader. Every number is answered. What no contract sees is the caller's to see to: a pointer is not null, also where its slice is
+// empty or its place goes unused; it is aligned for its type, and valid for as many elements as the length beside it says, or for
+// one; no place that is written overlaps another place or a slice; and nobody else writes to any of them during the call.
 ghost use mathlib.Core.Path.{_≡_};
 ghost use Rattle.word.specs.Digit.{isDigit};
 ghost use Rattle.word.specs.Ascii.{validAscii};

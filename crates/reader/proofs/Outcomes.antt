@@ -18,6 +18,16 @@ use Rattle.reader.specs.declared.iterator.SkipAnswer.{SkipAnswer}
 use Rattle.reader.specs.declared.skip.Block.{Block}
 use Rattle.reader.specs.declared.skip.Block.the-variants as block
 use Rattle.reader.specs.declared.skip.BlockAnswer.{BlockAnswer}
+use Rattle.reader.specs.declared.skip.Count.{Count}
+use Rattle.reader.specs.declared.skip.Count.the-variants as count
+use Rattle.reader.specs.declared.column.Column.{Column}
+use Rattle.reader.specs.declared.column.Column.the-variants as column
+use Rattle.reader.specs.declared.noskip.Seen.{Seen as PlainSeen}
+use Rattle.reader.specs.declared.noskip.Seen.the-variants as plain
+use Rattle.reader.specs.declared.noskip.Answer.{Answer as PlainAnswer}
+use Rattle.reader.specs.Plain.{PlainOutcome, plainNumber, plainByte, plainOutcomeOf}
+use Rattle.reader.specs.Column.{ColumnOutcome, columnOutcomeOf}
+use Rattle.reader.specs.Answer.{CountOutcome, countOutcomeOf}
 use Rattle.reader.specs.Answer.{numberOf, Outcome, seenNumber, seenByte, outcomeOf, readNumber, readByte, readOutcomeOf, SkipOutcome, skipNumber, skipZeros, skipOutcomeOf, BlockOutcome, blockNumber, blockBytes, blockOutcomeOf}
 use Rattle.reader.proofs.Admission.{refusal-tells}
 
@@ -109,3 +119,40 @@ block-outcome-tells =
     tells blockOutcomeOf
     (λ (o : BlockOutcome). record { told = record { block = blockCaseFrom (o .refusal) (o .block); taken = o .taken; passed = o .passed }; state = o .state })
     (λ a. ap (λ (x : Block). record { told = record { block = x; taken = a .told .taken; passed = a .told .passed }; state = a .state }) (block-back (a .told .block) (a .told .taken)))
+
+-- what `current_count` answers
+abbrev countFrom : ℕ → Option ℕ → Count
+countFrom = caseFrom count.Shown (count.Shown 0) count.Refused
+
+count-back : (x : Count) → countFrom (countOutcomeOf x .refusal) (countOutcomeOf x .count) ≡ x
+count-back (count.Shown n) = refl
+count-back (count.Refused e) = refused-back count.Shown (count.Shown 0) count.Refused e
+
+pub count-outcome-tells : (a b : Count) → countOutcomeOf a ≡ countOutcomeOf b → a ≡ b
+count-outcome-tells = tells countOutcomeOf (λ (o : CountOutcome). countFrom (o .refusal) (o .count)) count-back
+
+-- a column's
+abbrev columnFrom : ColumnOutcome → Column
+columnFrom o = cond (eqb (o .refusal) 0) (column.Read (o .totals)) (column.Refused (refusalFrom (o .refusal)))
+
+column-back : (x : Column) → columnFrom (columnOutcomeOf x) ≡ x
+column-back (column.Read t) = refl
+column-back (column.Refused e) = rw (refusal-tells e, refusal-back e)
+
+pub column-outcome-tells : (a b : Column) → columnOutcomeOf a ≡ columnOutcomeOf b → a ≡ b
+column-outcome-tells = tells columnOutcomeOf columnFrom column-back
+
+-- the plain reader's, with its one refusal
+abbrev plainFrom : ℕ → Option ℕ → PlainSeen
+plainFrom = caseFrom plain.Byte plain.End (λ e. plain.CursorPastEnd)
+
+plain-back : (x : PlainSeen) → plainFrom (plainNumber x) (plainByte x) ≡ x
+plain-back (plain.Byte b) = refl
+plain-back plain.End = refl
+plain-back plain.CursorPastEnd = refl
+
+pub plain-outcome-tells : (a b : PlainAnswer) → plainOutcomeOf a ≡ plainOutcomeOf b → a ≡ b
+plain-outcome-tells =
+    tells plainOutcomeOf
+    (λ (o : PlainOutcome). record { seen = plainFrom (o .refusal) (o .byte); taken = o .taken; passed = o .passed; cursor = record { cursor = o .cursor } })
+    (λ a. ap (λ (x : PlainSeen). record { seen = x; taken = a .taken; passed = a .passed; cursor = a .cursor }) (plain-back (a .seen)))

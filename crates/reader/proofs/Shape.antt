@@ -63,7 +63,7 @@ pub record AnswerType : Type 2 where
   pub state : Ans → State
   pub make : TT .D → State → Ans
   pub eta : (d : Ans) → make (told d) (state d) ≡ d
-  pub beta : (v : Values (as-field TT ∷ S.the-field ∷ [])) → _≡_ {A = Values (as-field TT ∷ S.the-field ∷ [])} (told (make (v .0) (v .1 .0)), (state (make (v .0) (v .1 .0)), tt)) v
+  pub beta : (w : Values (as-field TT ∷ S.the-field ∷ [])) → _≡_ {A = Values (as-field TT ∷ S.the-field ∷ [])} (told (make (w .0) (w .1 .0)), (state (make (w .0) (w .1 .0)), tt)) w
 
 abbrev pub struct : AnswerType → Record
 struct K = record {
@@ -72,11 +72,11 @@ struct K = record {
   parts = as-field (K .TT) ∷ S.the-field ∷ [];
   D = K .Ans;
   as-values = λ d. (K .told d, (K .state d, tt));
-  Ghost = λ v. Done;
+  Ghost = λ w. Done;
   ghosts = λ d. tt;
-  make = λ v g. K .make (v .0) (v .1 .0);
+  make = λ w g. K .make (w .0) (w .1 .0);
   eta = K .eta;
-  beta = λ v g. K .beta v;
+  beta = λ w g. K .beta w;
 }
 
 -- an `ensures` that holds of itself is shown beside the rest

@@ -23,7 +23,7 @@ use Rattle.script.specs.Script.{responseAt, outputFrom, outputOf, isDue,
 use Rattle.script.proofs.Writing.{wrote-inside}
 use Rattle.script.proofs.Parts.{to-the-end, drop-all, turn}
 
-false-no : false ≡ true → ⊥
+pub false-no : false ≡ true → ⊥
 false-no e = let no : _≡_ {A = ℕ} 0 1 = cc in omega arith
 
 -- what holds whenever the loop's test is reached
@@ -118,13 +118,13 @@ pub least-as : (input : List ℕ) (from least size size' : ℕ) → size ≡ siz
 least-as input from least size size' same told = rw (to-the-end input from, same) at told
 
 -- nothing answers what stands behind a stop
-stopped-prints-nothing : (input : List ℕ) (skipped : ℕ) → outputFrom input skipped stopped ≡ []
+pub stopped-prints-nothing : (input : List ℕ) (skipped : ℕ) → outputFrom input skipped stopped ≡ []
 unfolding responseAt
 stopped-prints-nothing [] skipped = refl
 stopped-prints-nothing (b ∷ rest) (suc skipped) = stopped-prints-nothing rest skipped
 stopped-prints-nothing (b ∷ rest) zero = stopped-prints-nothing rest (bodyLength (kindOf b))
 
-is-stopped-run : (text : List ℕ) (at : Stage) → isStopped at ≡ true → runIn text at ≡ stopped
+pub is-stopped-run : (text : List ℕ) (at : Stage) → isStopped at ≡ true → runIn text at ≡ stopped
 is-stopped-run text (stage.Gathering n) e = absurd (false-no e)
 is-stopped-run text (stage.Opened n st) e = absurd (false-no e)
 is-stopped-run text stage.Stopped e = refl

@@ -6,4 +6,5 @@ pub mod Responses
 pub mod Parts
 pub mod Answering
 pub mod Streaming
+pub mod History
 pub mod Example

@@ -4,3 +4,5 @@ pub mod Record
 pub mod Reply
 pub mod Run
 pub mod Script
+pub mod Stream
+pub mod Message

@@ -12,6 +12,10 @@ behind (field ∷ rest) = 32 ∷ (field ++ behind rest)
 abbrev pub lineOf : List ℕ → List (List ℕ) → List ℕ
 lineOf field rest = field ++ behind rest
 
+-- The most bytes of a line: a digit, four times a space and a number of up to 20 digits, and a newline.
+abbrev pub longestLine : ℕ
+longestLine = 86
+
 -- A buffer was `before`, of which `at` bytes were written; now it is `after`, and these bytes are written behind them, up to `end`.
 pub record Wrote (before : List ℕ) (at : ℕ) (bytes : List ℕ) (after : List ℕ) (end : ℕ) : Type 0 where
   pub size : length after ≡ length before

@@ -34,6 +34,9 @@ bodyLength kind.ZeroSkip = 1
 bodyLength kind.Block = 5
 bodyLength kind.Unknown = 0
 
+abbrev pub longestBody : ℕ
+longestBody = bodyLength kind.Open
+
 -- "lowest first"
 abbrev pub littleEndian : List ℕ → ℕ
 littleEndian [] = 0

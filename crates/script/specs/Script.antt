@@ -8,8 +8,7 @@ use mathlib.Core.List.{List, [], _∷_, _++_}
 use Rattle.script.specs.Record.{kindOf, bodyLength, recordAt}
 use Rattle.script.specs.declared.run.Stage.{Stage}
 use Rattle.script.specs.declared.answer.Progress.{Progress}
-use Rattle.script.specs.declared.stream.Turn.{Turn}
-use Rattle.script.specs.declared.stream.Turn.the-variants as turn
+use Rattle.script.specs.Line.{longestLine}
 use Rattle.script.specs.Run.{Run, gathering, runIn, isStopped, Response, respond}
 
 -- the response to the record that an input has behind a byte of kind
@@ -38,10 +37,7 @@ pub record Answers (text : List ℕ) (begun : Stage) (input : List ℕ) (ended :
       ≡ take (progress .end) out ++ outputFrom (drop (progress .used) input ++ rest) 0 (runIn text' (progress .stage))
 
 -- The next record is answered at once where the run goes on, there is room for the longest line, and the body is there, or no more of
--- it comes. A line is a digit, four times a space and a number of up to 20 digits, and a newline.
-abbrev pub longestLine : ℕ
-longestLine = 86
-
+-- it comes.
 unfoldable pub isDue : Stage → ℕ → Bool → ℕ → ℕ → Bool
 isDue stage room ended size there = not (isStopped stage) && (leb longestLine room && (ended || leb size there))
 
@@ -53,17 +49,3 @@ nextIsDue stage room ended (kind ∷ body) = isDue stage room ended (bodyLength 
 -- no record that is due is left
 abbrev pub GoesAsFar : List ℕ → Bool → ℕ → Progress → Type 0
 GoesAsFar input ended space progress = nextIsDue (progress .stage) (space - progress .end) ended (drop (progress .used) input) ≡ false
-
--- Of bytes that have arrived, whatever comes behind them, the run prints some, and then what the run that goes on prints of the bytes
--- that are kept and of those that come. So nothing of what is still to be printed is lost or doubled; that the first bytes are the
--- ones handed to the system's write, no contract of a write says.
-pub record Prints (ended : Bool) (arrived : List ℕ) (run : Run) (kept : List ℕ) (next : Run) : Type 0 where
-  pub printed : List ℕ
-  pub told : (rest : List ℕ) → (ended ≡ true → rest ≡ []) → outputFrom (arrived ++ rest) 0 run ≡ printed ++ outputFrom (kept ++ rest) 0 next
-
--- a turn that goes on keeps at most so many bytes
-abbrev pub KeptWithin : ℕ → Turn → Type 0
-KeptWithin most (turn.More stage kept) = kept ≤ most
-KeptWithin most turn.Over = Unit {0}
-KeptWithin most turn.CannotRead = Unit {0}
-KeptWithin most turn.CannotWrite = Unit {0}

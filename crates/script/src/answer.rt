@@ -6,7 +6,8 @@ ghost use lib.Dec.{ltb};
 ghost use lib.ListN.{length};
 ghost use Rattle.script.specs.declared.record.Record.the-variants.{CutShort};
 ghost use Rattle.script.specs.Record.{bodyLength, wholeRecord};
-ghost use Rattle.script.specs.Run.{runIn, isStopped, Responds};
+ghost use Rattle.script.specs.Line.{longestLine};
+ghost use Rattle.script.specs.Run.{mostText, runIn, isStopped, Responds};
 ghost use Rattle.script.specs.Script.{responseAt, isDue, GoesAsFar, Answers};
 use crate::line::LONGEST;
 use crate::record::Kind;
@@ -46,8 +47,8 @@ fn answer_record(
     out: &mut [u8],
     at: usize,
 ) -> Response
-    requires { ⌜ (length (now text) ≡ 4096) × (at + 86 ≤ length (now out)) ⌝ }
-    ensures kept { λ r. ⌜ length (now (text .exit)) ≡ 4096 ⌝ }
+    requires { ⌜ (length (now text) ≡ mostText) × (at + longestLine ≤ length (now out)) ⌝ }
+    ensures kept { λ r. ⌜ length (now (text .exit)) ≡ mostText ⌝ }
     ensures told { λ r. ⌜ Responds (responseAt (runIn (now (text .entry)) stage) kind (now (rest .entry))) (now (text .exit)) (now (out .entry)) at (now (out .exit)) r ⌝ }
 {
     let asked = record_behind(kind_of(kind), rest);
@@ -95,8 +96,8 @@ pub(crate) fn answer(
     ended: bool,
     out: &mut [u8],
 ) -> Progress
-    requires { ⌜ length (now text) ≡ 4096 ⌝ }
-    ensures kept { λ r. ⌜ (length (now (text .exit)) ≡ 4096) × (length (now (out .exit)) ≡ length (now (out .entry))) ⌝ }
+    requires { ⌜ length (now text) ≡ mostText ⌝ }
+    ensures kept { λ r. ⌜ (length (now (text .exit)) ≡ mostText) × (length (now (out .exit)) ≡ length (now (out .entry))) ⌝ }
     ensures far { λ r. ⌜ GoesAsFar (now (input .entry)) ended (length (now (out .exit))) r ⌝ }
     ensures told { λ r. ⌜ Answers (now (text .entry)) begun (now (input .entry)) ended (now (text .exit)) (now (out .exit)) r ⌝ }
 {

@@ -4,7 +4,7 @@ ghost use mathlib.Core.List.{[], _∷_};
 ghost use Prim.Native.Nat.{_+_, _≤_, _<_};
 ghost use lib.ListN.{length};
 ghost use Rattle.script.specs.Decimal.{decimal};
-ghost use Rattle.script.specs.Line.{behind, lineOf, Wrote};
+ghost use Rattle.script.specs.Line.{behind, lineOf, longestLine, Wrote};
 ghost use Rattle.script.specs.Reply.{fieldsOf, replyLine};
 use crate::call::Reply;
 use crate::call::Shown;
@@ -20,7 +20,7 @@ fn put(out: &mut [u8], at: usize, b: u8) -> usize
     at + 1
 }
 
-fn put_all(out: &mut [u8], at: usize, bytes: &[u8]) -> usize
+pub(crate) fn put_all(out: &mut [u8], at: usize, bytes: &[u8]) -> usize
     requires { ⌜ at + length (now bytes) ≤ length (now out) ⌝ }
     ensures { λ r. ⌜ Wrote (now (out .entry)) at (now (bytes .entry)) (now (out .exit)) r ⌝ }
 {
@@ -143,7 +143,7 @@ fn reply_fields(out: &mut [u8], at: usize, reply: Reply) -> usize
 
 // The line of a call, whose kind is one digit.
 pub(crate) fn reply_line(out: &mut [u8], at: usize, kind: u8, reply: Reply) -> usize
-    requires { ⌜ (kind < 10) × (at + 86 ≤ length (now out)) ⌝ }
+    requires { ⌜ (kind < 10) × (at + longestLine ≤ length (now out)) ⌝ }
     ensures { λ r. ⌜ Wrote (now (out .entry)) at (replyLine kind reply) (now (out .exit)) r ⌝ }
 {
     let begun = put(out, at, b'0' + kind);

@@ -3,7 +3,8 @@ ghost use mathlib.Core.Path.{_≡_};
 ghost use mathlib.Core.List.{List};
 ghost use Prim.Native.Nat.{ℕ, _+_, _≤_};
 ghost use lib.ListN.{length, take};
-ghost use Rattle.script.specs.Run.{runIn, stops, addText, openText, gatheringCall, callResponse, openedCall, gatheringResponse, openedResponse, respond as respond·, Responds};
+ghost use Rattle.script.specs.Line.{longestLine};
+ghost use Rattle.script.specs.Run.{mostText, runIn, stops, addText, openText, gatheringCall, callResponse, openedCall, gatheringResponse, openedResponse, respond as respond·, Responds};
 ghost use Rattle.reader.specs.State.{readerNamed};
 use crate::call::made;
 use crate::call::number;
@@ -44,7 +45,7 @@ fn responded(stage: Stage, end: usize) -> Response
 }
 
 fn stop(refusal: Refusal, out: &mut [u8], at: usize) -> Response
-    requires { ⌜ at + 86 ≤ length (now out) ⌝ }
+    requires { ⌜ at + longestLine ≤ length (now out) ⌝ }
     ensures { λ r. ⌜ ((buffer : List ℕ) → Responds (stops refusal) buffer (now (out .entry)) at (now (out .exit)) r) ⌝ }
 {
     let end = refusal_line(out, at, refusal.number() as usize);
@@ -52,8 +53,8 @@ fn stop(refusal: Refusal, out: &mut [u8], at: usize) -> Response
 }
 
 fn add_text(text: &mut [u8], n: usize, b: u8, out: &mut [u8], at: usize) -> Response
-    requires { ⌜ (length (now text) ≡ 4096) × (at + 86 ≤ length (now out)) ⌝ }
-    ensures kept { λ r. ⌜ length (now (text .exit)) ≡ 4096 ⌝ }
+    requires { ⌜ (length (now text) ≡ mostText) × (at + longestLine ≤ length (now out)) ⌝ }
+    ensures kept { λ r. ⌜ length (now (text .exit)) ≡ mostText ⌝ }
     ensures told { λ r. ⌜ Responds (addText (take n (now (text .entry))) b) (now (text .exit)) (now (out .entry)) at (now (out .exit)) r ⌝ }
 {
     if n < MOST_TEXT {
@@ -64,7 +65,7 @@ fn add_text(text: &mut [u8], n: usize, b: u8, out: &mut [u8], at: usize) -> Resp
 }
 
 fn open_text(n: usize, format: Format, out: &mut [u8], at: usize) -> Response
-    requires { ⌜ at + 86 ≤ length (now out) ⌝ }
+    requires { ⌜ at + longestLine ≤ length (now out) ⌝ }
     ensures { λ r. ⌜ ((buffer : List ℕ) → Responds (openText (take n buffer) format) buffer (now (out .entry)) at (now (out .exit)) r) ⌝ }
 {
     let answer = format.error().number();
@@ -77,7 +78,7 @@ fn open_text(n: usize, format: Format, out: &mut [u8], at: usize) -> Response
 
 // A call before an accepted open.
 fn early_call(by: u8, out: &mut [u8], at: usize) -> Response
-    requires { ⌜ at + 86 ≤ length (now out) ⌝ }
+    requires { ⌜ at + longestLine ≤ length (now out) ⌝ }
     ensures { λ r. ⌜ ((buffer : List ℕ) → Responds (gatheringCall (readerNamed by)) buffer (now (out .entry)) at (now (out .exit)) r) ⌝ }
 {
     let who = reader_named(by);
@@ -94,8 +95,8 @@ fn gathering_response(
     out: &mut [u8],
     at: usize,
 ) -> Response
-    requires { ⌜ (length (now text) ≡ 4096) × (at + 86 ≤ length (now out)) ⌝ }
-    ensures kept { λ r. ⌜ length (now (text .exit)) ≡ 4096 ⌝ }
+    requires { ⌜ (length (now text) ≡ mostText) × (at + longestLine ≤ length (now out)) ⌝ }
+    ensures kept { λ r. ⌜ length (now (text .exit)) ≡ mostText ⌝ }
     ensures told { λ r. ⌜ Responds (gatheringResponse (take n (now (text .entry))) asked) (now (text .exit)) (now (out .entry)) at (now (out .exit)) r ⌝ }
 {
     match asked {
@@ -125,7 +126,7 @@ fn call_line(
     out: &mut [u8],
     at: usize,
 ) -> Response
-    requires { ⌜ at + 86 ≤ length (now out) ⌝ }
+    requires { ⌜ at + longestLine ≤ length (now out) ⌝ }
     ensures { λ r. ⌜ Responds (callResponse (take n (now (text .entry))) state reader call) (now (text .entry)) (now (out .entry)) at (now (out .exit)) r ⌝ }
 {
     let size = text_length(text, n);
@@ -144,7 +145,7 @@ fn opened_call(
     out: &mut [u8],
     at: usize,
 ) -> Response
-    requires { ⌜ at + 86 ≤ length (now out) ⌝ }
+    requires { ⌜ at + longestLine ≤ length (now out) ⌝ }
     ensures { λ r. ⌜ Responds (openedCall (take n (now (text .entry))) state call (readerNamed by)) (now (text .entry)) (now (out .entry)) at (now (out .exit)) r ⌝ }
 {
     let who = reader_named(by);
@@ -162,7 +163,7 @@ fn opened_response(
     out: &mut [u8],
     at: usize,
 ) -> Response
-    requires { ⌜ at + 86 ≤ length (now out) ⌝ }
+    requires { ⌜ at + longestLine ≤ length (now out) ⌝ }
     ensures { λ r. ⌜ Responds (openedResponse (take n (now (text .entry))) state asked) (now (text .entry)) (now (out .entry)) at (now (out .exit)) r ⌝ }
 {
     match asked {
@@ -182,8 +183,8 @@ pub(crate) fn respond(
     out: &mut [u8],
     at: usize,
 ) -> Response
-    requires { ⌜ (length (now text) ≡ 4096) × (at + 86 ≤ length (now out)) ⌝ }
-    ensures kept { λ r. ⌜ length (now (text .exit)) ≡ 4096 ⌝ }
+    requires { ⌜ (length (now text) ≡ mostText) × (at + longestLine ≤ length (now out)) ⌝ }
+    ensures kept { λ r. ⌜ length (now (text .exit)) ≡ mostText ⌝ }
     ensures told { λ r. ⌜ Responds (respond· (runIn (now (text .entry)) stage) asked) (now (text .exit)) (now (out .entry)) at (now (out .exit)) r ⌝ }
 {
     match stage {

@@ -1,71 +1,62 @@
 // Moves bytes: from standard input through `answer` to standard output, in large pieces.
 ghost use mathlib.Core.Path.{_≡_};
-ghost use Prim.Native.Nat.{ℕ, _-_, _≤_};
-ghost use mathlib.Core.Bool.{false};
+ghost use Prim.Native.Nat.{_+_, _-_, _^_, _≤_, _<_};
 ghost use lib.ListN.{length, take, drop};
-ghost use Rattle.script.specs.Run.{runIn};
-ghost use Rattle.script.specs.Script.{Prints, KeptWithin};
+ghost use Rattle.script.specs.Run.{mostText};
+ghost use Rattle.script.specs.Stream.{nextOf, Turns, firstStart, arrivalOf, Reads, RoomToRead, afterRead, Follows};
 use crate::answer::answer;
 use crate::answer::is_stopped;
+use crate::line::LONGEST;
 use crate::run::Stage;
 use libc::STDIN_FILENO;
 use libc::STDOUT_FILENO;
 
-// How far a piece of input is taken in: how far the run is, how many bytes of the piece are read or, behind `take_in`, kept, and
-// whether all lines could be written.
-pub struct Taken {
+// What a turn begins with: how far the run is, how many bytes at the buffer's start have arrived and are not answered, and whether the
+// input has ended.
+pub struct Start {
     pub stage: Stage,
-    pub count: usize,
-    pub done: bool,
+    pub filled: usize,
+    pub ended: bool,
 }
 
-// How a turn ended: the run goes on, with the first bytes of a record kept; or it is over; or the system failed.
-pub enum Turn {
-    More(Stage, usize),
+// What is to be done behind a turn.
+pub enum Next {
+    Again,
+    Read,
+    Over,
+}
+
+// A turn: how far the run is, how many bytes are kept at the buffer's start, how many bytes of lines there are to write, and what is
+// to be done then.
+pub struct Turn {
+    pub stage: Stage,
+    pub kept: usize,
+    pub end: usize,
+    pub next: Next,
+}
+
+// What a read gave: so many bytes are in the buffer now; the input's end; or nothing, since it failed.
+pub enum Arrival {
+    More(usize),
+    End,
+    Failed,
+}
+
+// A run behind a turn.
+pub enum Status {
+    Running(Start),
     Over,
     CannotRead,
     CannotWrite,
 }
 
-fn write_start(out: &[u8], end: usize) -> bool
-    requires { ⌜ end ≤ length (now out) ⌝ }
+pub fn first() -> Start
+    ensures { λ r. ⌜ r ≡ firstStart ⌝ }
 {
-    io::write_all(STDOUT_FILENO, &out[0..end])
-}
-
-// Answers what has arrived, and writes the lines whenever their buffer is full.
-fn drain(text: &mut [u8], begun: Stage, input: &[u8], ended: bool, out: &mut [u8]) -> Taken
-    requires { ⌜ length (now text) ≡ 4096 ⌝ }
-    ensures kept { λ r. ⌜ (length (now (text .exit)) ≡ 4096) × (r .count ≤ length (now (input .entry))) ⌝ }
-    ensures told { λ r. ⌜ Prints ended (now (input .entry)) (runIn (now (text .entry)) begun) (drop (r .count) (now (input .entry))) (runIn (now (text .exit)) (r .stage)) ⌝ }
-{
-    let mut stage = begun;
-    let mut used = 0;
-    while used < input.len() {
-        let progress = answer(text, stage, &input[used..], ended, out);
-        let next = progress.stage;
-        let more = progress.used;
-        stage = next;
-        used += more;
-        if !write_start(out, progress.end) {
-            return Taken {
-                stage,
-                count: used,
-                done: false,
-            };
-        }
-        if more == 0 {
-            return Taken {
-                stage,
-                count: used,
-                done: true,
-            };
-        }
-    }
-    Taken {
-        stage,
-        count: used,
-        done: true,
+    Start {
+        stage: Stage::Gathering(0),
+        filled: 0,
+        ended: false,
     }
 }
 
@@ -84,67 +75,118 @@ fn keep_tail(buffer: &mut [u8], from: usize, end: usize) -> usize
     i
 }
 
-// Takes in the first bytes of a buffer, of which those of a record that is not whole yet are kept at its start.
-fn take_in(text: &mut [u8], begun: Stage, buffer: &mut [u8], filled: usize, out: &mut [u8]) -> Taken
-    requires { ⌜ (length (now text) ≡ 4096) × (filled ≤ length (now buffer)) ⌝ }
-    ensures kept { λ r. ⌜ (length (now (text .exit)) ≡ 4096) × (r .count ≤ length (now (buffer .exit))) ⌝ }
-    ensures told { λ r. ⌜ Prints false (take filled (now (buffer .entry))) (runIn (now (text .entry)) begun) (take (r .count) (now (buffer .exit))) (runIn (now (text .exit)) (r .stage)) ⌝ }
+fn next_of(stage: Stage, room: usize, ended: bool) -> Next
+    ensures { λ r. ⌜ r ≡ nextOf stage room ended ⌝ }
 {
-    let taken = drain(text, begun, &buffer[0..filled], false, out);
-    let stage = taken.stage;
-    let kept = keep_tail(buffer, taken.count, filled);
-    Taken {
-        stage,
-        count: kept,
-        done: taken.done,
-    }
-}
-
-fn turn_of(taken: Taken) -> Turn
-    ensures { λ r. ⌜ ((most : ℕ) → taken .count ≤ most → KeptWithin most r) ⌝ }
-{
-    let stage = taken.stage;
-    if !taken.done {
-        return Turn::CannotWrite;
-    }
     if is_stopped(stage) {
-        return Turn::Over;
+        return Next::Over;
     }
-    Turn::More(stage, taken.count)
+    if room < LONGEST {
+        return Next::Again;
+    }
+    if ended { Next::Over } else { Next::Read }
 }
 
-// What is left when the input has ended is a record that is cut short.
-fn finish(text: &mut [u8], stage: Stage, rest: &[u8], out: &mut [u8]) -> Turn
-    requires { ⌜ length (now text) ≡ 4096 ⌝ }
-    ensures text { λ r. ⌜ length (now (text .exit)) ≡ 4096 ⌝ }
-    ensures kept { λ r. ⌜ ((most : ℕ) → KeptWithin most r) ⌝ }
+// Answers what has arrived, as far as there is room for the lines, and keeps the bytes that are not answered. A turn that filled the
+// buffer of lines is followed by one more, even where nothing is left to answer: that one prints nothing.
+pub(crate) fn take_turn(text: &mut [u8], start: Start, buffer: &mut [u8], out: &mut [u8]) -> Turn
+    requires { ⌜ (length (now text) ≡ mostText) × (start .filled ≤ length (now buffer)) ⌝ }
+    ensures text { λ r. ⌜ length (now (text .exit)) ≡ mostText ⌝ }
+    ensures told { λ r. ⌜ Turns (now (text .entry)) (now (buffer .entry)) start (now (text .exit)) (now (buffer .exit)) (now (out .exit)) r ⌝ }
 {
-    let taken = drain(text, stage, rest, true, out);
-    if taken.done {
-        return Turn::Over;
+    let begun = start.stage;
+    let filled = start.filled;
+    let ended = start.ended;
+    let progress = answer(text, begun, &buffer[0..filled], ended, out);
+    let stage = progress.stage;
+    let end = progress.end;
+    let room = out.len() - end;
+    let next = next_of(stage, room, ended);
+    let kept = keep_tail(buffer, progress.used, filled);
+    Turn {
+        stage,
+        kept,
+        end,
+        next,
     }
-    Turn::CannotWrite
 }
 
-// Reads once, behind the bytes that are kept, and takes in what came.
-pub(crate) fn read_turn(
-    text: &mut [u8],
-    stage: Stage,
-    buffer: &mut [u8],
-    kept: usize,
-    out: &mut [u8],
-) -> Turn
-    requires { ⌜ (length (now text) ≡ 4096) × (kept ≤ length (now buffer)) ⌝ }
-    ensures text { λ r. ⌜ length (now (text .exit)) ≡ 4096 ⌝ }
-    ensures kept { λ r. ⌜ KeptWithin (length (now (buffer .exit))) r ⌝ }
+// Hands bytes to the system's write, and answers whether it took them all. No contract says which bytes a write took, nor to whom they
+// went, so nothing is promised here.
+pub(crate) fn hand_on(bytes: &[u8]) -> bool {
+    io::write_all(STDOUT_FILENO, bytes)
+}
+
+// Asks the system's read for bytes. No contract says which bytes it gives, so nothing is promised here; that the part has the length
+// that it had is what its type says.
+fn receive(part: &mut [u8]) -> isize {
+    libc::read(STDIN_FILENO, part)
+}
+
+fn arrival_of(got: isize, kept: usize, came: usize) -> Arrival
+    requires { ⌜ kept + came < 2 ^ 64 ⌝ }
+    ensures { λ r. ⌜ r ≡ arrivalOf got kept came ⌝ }
 {
-    let got = libc::read(STDIN_FILENO, &mut buffer[kept..]);
     if got < 0 {
-        return Turn::CannotRead;
+        return Arrival::Failed;
     }
-    if got == 0 {
-        return finish(text, stage, &buffer[0..kept], out);
+    if came == 0 {
+        return Arrival::End;
     }
-    let n = io::count(got, &buffer[kept..]);
-    turn_of(take_in(text, stage, buffer, kept + n, out))
+    Arrival::More(kept + came)
+}
+
+// Reads once, behind the bytes that are kept.
+fn read_more(buffer: &mut [u8], kept: usize) -> Arrival
+    requires { ⌜ kept < length (now buffer) ⌝ }
+    ensures { λ r. ⌜ Reads kept (now (buffer .entry)) (now (buffer .exit)) r ⌝ }
+{
+    let got = receive(&mut buffer[kept..]);
+    let came = io::count(got, &buffer[kept..]);
+    arrival_of(got, kept, came)
+}
+
+fn after_read(turn: Turn, came: Arrival) -> Status
+    ensures { λ r. ⌜ r ≡ afterRead turn came ⌝ }
+{
+    let stage = turn.stage;
+    let kept = turn.kept;
+    match came {
+        Arrival::More(filled) => Status::Running(Start {
+            stage,
+            filled,
+            ended: false,
+        }),
+        Arrival::End => Status::Running(Start {
+            stage,
+            filled: kept,
+            ended: true,
+        }),
+        Arrival::Failed => Status::CannotRead,
+    }
+}
+
+// The run behind a turn whose lines were all written or not, and behind the read that this turn asks for.
+pub(crate) fn go_on(turn: Turn, done: bool, ended: bool, buffer: &mut [u8]) -> Status
+    requires { ⌜ (turn .kept ≤ length (now buffer)) × RoomToRead turn (now buffer) ⌝ }
+    ensures { λ r. ⌜ Follows done turn ended (now (buffer .entry)) (now (buffer .exit)) r ⌝ }
+{
+    if !done {
+        return Status::CannotWrite;
+    }
+    let stage = turn.stage;
+    let kept = turn.kept;
+    let next = turn.next;
+    match next {
+        Next::Over => Status::Over,
+        Next::Again => Status::Running(Start {
+            stage,
+            filled: kept,
+            ended,
+        }),
+        Next::Read => {
+            let came = read_more(buffer, kept);
+            after_read(turn, came)
+        }
+    }
 }

@@ -7,11 +7,14 @@ use lib.ListN.{getD}
 use Rattle.word.specs.Check.{fullCheck, plainCheck}
 use Rattle.word.specs.Digit.{isDigit}
 use Rattle.word.specs.declared.format_flags.Format.{Format}
+use Rattle.vectors.specs.declared.call.Repeated.{Repeated}
+use Rattle.vectors.specs.declared.call.Repeated.the-variants.{Packed, NoCall}
 use Rattle.vectors.specs.declared.record.Record.{Record}
 use Rattle.vectors.specs.declared.replay.Answer.{Answer}
-use Rattle.vectors.specs.declared.replay.Answer.the-variants.{Full, Plain, Digit}
+use Rattle.vectors.specs.declared.replay.Answer.the-variants.{Full, Plain, Digit, Call}
 use Rattle.vectors.specs.declared.replay.Verdict.{Verdict}
 use Rattle.vectors.specs.declared.replay.Verdict.the-variants.{Same, Differs, NoRecord}
+use Rattle.vectors.specs.Call.{repeatedOf}
 
 -- the verdict on one answer
 unfoldable pub verdict : Answer → ℕ → ℕ → Verdict
@@ -45,6 +48,19 @@ digitVerdict r =
     (verdict Digit (value r 2) (cond (isDigit (value r 0) (value r 1)) 1 0))
     NoRecord
 
--- by the kind: `W` is 87 and `D` is 68
+-- `R what lo hi bytes answer`, of 16 digits each: the answer beside that of the reader's definitions to the same call
+abbrev pub beside : ℕ → Repeated → Verdict
+beside recorded (Packed answered) = verdict Call recorded answered
+beside recorded NoCall = NoRecord
+
+unfoldable pub callVerdict : Record → Verdict
+callVerdict r =
+    cond (eqb (r .shape) 0x1010101010)
+    (beside (value r 4) (repeatedOf (value r 0) (record { lo = value r 1; hi = value r 2 }) (value r 3)))
+    NoRecord
+
+-- by the kind: `W` is 87, `D` is 68 and `R` is 82
 unfoldable pub verdictOf : Record → Verdict
-verdictOf r = cond (eqb (r .kind) 87) (wordVerdict r) (cond (eqb (r .kind) 68) (digitVerdict r) NoRecord)
+verdictOf r =
+    cond (eqb (r .kind) 87) (wordVerdict r)
+    (cond (eqb (r .kind) 68) (digitVerdict r) (cond (eqb (r .kind) 82) (callVerdict r) NoRecord))

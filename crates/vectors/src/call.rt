@@ -1,4 +1,13 @@
-// A recorded call of a reader, made anew: the record's fields are packed numbers, eight bytes each, the first byte highest.
+// A recorded call of a reader, made anew: the record's fields are packed numbers.
+ghost use mathlib.Core.Path.{_≡_};
+ghost use Rattle.reader.specs.Answer.{seenNumber, seenByte, readNumber, readByte, skipNumber, skipZeros, blockNumber, blockBytes};
+ghost use Rattle.reader.specs.Answer.{outcomeOf, readOutcomeOf, skipOutcomeOf, blockOutcomeOf};
+ghost use Rattle.reader.specs.Reading.{readingFor};
+ghost use Rattle.vectors.specs.Call.{orRefused, found, blockFound, withState, packedOutcome, packedSkip, packedBlock, packedPart};
+ghost use Rattle.vectors.specs.Call.{bufferOf, stateOf, answerTo, repeatedOf};
+use crate::packed::byte_of;
+use crate::packed::pushed;
+use crate::packed::with_byte;
 use reader::iterator::Read;
 use reader::iterator::ReadAnswer;
 use reader::iterator::SkipAnswer;
@@ -29,18 +38,14 @@ const MOST: usize = 8;
 // What a call answered, packed as the record has it: whether there was a byte or a block (1 for a zero skip, 2 where the call was
 // refused), the byte or how many zeros (the refusal's number), the cursor, what was passed, the three counts, and what was taken.
 // Of a block's part instead its length and its bytes, the last one lowest.
-pub enum Outcome {
+pub enum Repeated {
     Packed(u64),
     NoCall,
 }
 
-// Byte `place` of a packed number, counted from the highest.
-fn byte_of(packed: u64, place: u32) -> u8 {
-    let shift = (7 - place % 8) * 8;
-    ((packed >> shift) % 256) as u8
-}
-
-fn buffer_of(bytes: u64) -> [u8; MOST] {
+fn buffer_of(bytes: u64) -> [u8; MOST]
+    ensures { λ r. ⌜ r ≡ bufferOf bytes ⌝ }
+{
     [
         byte_of(bytes, 7),
         byte_of(bytes, 6),
@@ -53,7 +58,9 @@ fn buffer_of(bytes: u64) -> [u8; MOST] {
     ]
 }
 
-fn state_of(what: u64, format: Format) -> State {
+fn state_of(what: u64, format: Format) -> State
+    ensures { λ r. ⌜ r ≡ stateOf what format ⌝ }
+{
     State {
         format,
         cursor: byte_of(what, 3) as usize,
@@ -63,66 +70,95 @@ fn state_of(what: u64, format: Format) -> State {
     }
 }
 
-fn with_byte(packed: u64, next: u8) -> u64 {
-    packed << 8 | next as u64
-}
-
-fn pushed(packed: u64, next: usize) -> u64 {
-    with_byte(packed, (next % 256) as u8)
-}
-
 // With the bytes of an answer behind its first two.
-fn packed_state(first: u64, state: State, taken: usize, passed: usize) -> u64 {
+fn packed_state(first: u64, state: State, taken: usize, passed: usize) -> u64
+    ensures { λ r. ⌜ r ≡ withState first state taken passed ⌝ }
+{
     let moved = pushed(pushed(first, state.cursor), passed);
     let counts = pushed(pushed(moved, state.integer.0), state.fraction.0);
     pushed(pushed(counts, state.exponent.0), taken)
 }
 
-fn pack(a: Answer) -> u64 {
+fn first_of_seen(seen: Seen) -> u64
+    ensures { λ r. ⌜ r ≡ orRefused (seenNumber seen) (found (seenByte seen)) ⌝ }
+{
+    match seen {
+        Seen::Byte(b) => pushed(1, b as usize),
+        Seen::End => 0,
+        Seen::Refused(refusal) => pushed(2, refusal.number() as usize),
+    }
+}
+
+fn first_of_read(read: Read) -> u64
+    ensures { λ r. ⌜ r ≡ orRefused (readNumber read) (found (readByte read)) ⌝ }
+{
+    match read {
+        Read::Taken(b) => pushed(1, b as usize),
+        Read::Declined => 0,
+        Read::Refused(refusal) => pushed(2, refusal.number() as usize),
+    }
+}
+
+fn first_of_skip(skipped: Skipped) -> u64
+    ensures { λ r. ⌜ r ≡ orRefused (skipNumber skipped) (found (skipZeros skipped)) ⌝ }
+{
+    match skipped {
+        Skipped::Zeros(zeros) => pushed(1, zeros),
+        Skipped::Refused(refusal) => pushed(2, refusal.number() as usize),
+    }
+}
+
+fn first_of_block(block: Block, taken: usize) -> u64
+    ensures { λ r. ⌜ r ≡ orRefused (blockNumber block) (blockFound (blockBytes block taken)) ⌝ }
+{
+    match block {
+        Block::Taken => pushed(1, 0),
+        Block::None => 0,
+        Block::Refused(refusal) => pushed(2, refusal.number() as usize),
+    }
+}
+
+fn pack(a: Answer) -> u64
+    ensures { λ r. ⌜ r ≡ packedOutcome (outcomeOf a) ⌝ }
+{
     let told = a.told;
     let seen = told.seen;
-    let first = match seen {
-        Seen::Byte(b) => 0x100 + b as u64,
-        Seen::End => 0,
-        Seen::Refused(refusal) => 0x200 + refusal.number() as u64,
-    };
-    packed_state(first, a.state, told.taken, told.passed)
+    packed_state(first_of_seen(seen), a.state, told.taken, told.passed)
 }
 
-fn pack_read(a: ReadAnswer) -> u64 {
+fn pack_read(a: ReadAnswer) -> u64
+    ensures { λ r. ⌜ r ≡ packedOutcome (readOutcomeOf a) ⌝ }
+{
     let told = a.told;
     let read = told.read;
-    let first = match read {
-        Read::Taken(b) => 0x100 + b as u64,
-        Read::Declined => 0,
-        Read::Refused(refusal) => 0x200 + refusal.number() as u64,
-    };
-    packed_state(first, a.state, told.taken, told.passed)
+    packed_state(first_of_read(read), a.state, told.taken, told.passed)
 }
 
-fn pack_skip(a: SkipAnswer) -> u64 {
+fn pack_skip(a: SkipAnswer) -> u64
+    ensures { λ r. ⌜ r ≡ packedSkip (skipOutcomeOf a) ⌝ }
+{
     let told = a.told;
     let skipped = told.skipped;
-    let first = match skipped {
-        Skipped::Zeros(zeros) => pushed(1, zeros),
-        Skipped::Refused(refusal) => 0x200 + refusal.number() as u64,
-    };
-    packed_state(first, a.state, told.taken, told.passed)
+    packed_state(first_of_skip(skipped), a.state, told.taken, told.passed)
 }
 
-fn pack_block(a: BlockAnswer) -> u64 {
+fn pack_block(a: BlockAnswer) -> u64
+    ensures { λ r. ⌜ r ≡ packedBlock (blockOutcomeOf a) ⌝ }
+{
     let told = a.told;
     let block = told.block;
-    let first = match block {
-        Block::Taken => 0x100,
-        Block::None => 0,
-        Block::Refused(refusal) => 0x200 + refusal.number() as u64,
-    };
-    packed_state(first, a.state, told.taken, told.passed)
+    packed_state(
+        first_of_block(block, told.taken),
+        a.state,
+        told.taken,
+        told.passed,
+    )
 }
 
 // Of a part of eight bytes the length is shifted out.
-fn pack_part(part: &[u8]) -> u64 {
+fn pack_part(part: &[u8]) -> u64
+    ensures { λ r. ⌜ r ≡ packedPart (now (part .entry)) ⌝ }
+{
     let mut packed = part.len() as u64;
     let mut i = 0;
     while i < part.len() {
@@ -133,37 +169,41 @@ fn pack_part(part: &[u8]) -> u64 {
 }
 
 // 0 peek, 1 take, 2 read of one value, 3 takes to the end, 4 zero skip, 5 block take, 6 the part that a block is.
-fn made(kind: u8, s: &[u8], state: State, who: Reader, value: u8) -> Outcome {
+fn made(kind: u8, s: &[u8], state: State, who: Reader, value: u8) -> Repeated
+    ensures { λ r. ⌜ r ≡ answerTo kind (readingFor state who) (now (s .entry)) state who value ⌝ }
+{
     match kind {
-        0 => Outcome::Packed(pack(peek(s, state, who))),
-        1 => Outcome::Packed(pack(next(s, state, who))),
-        2 => Outcome::Packed(pack_read(read_if_value_cased(s, state, who, value))),
-        3 => Outcome::Packed(pack(next_all(s, state, who))),
-        4 => Outcome::Packed(pack_skip(skip_zeros(s, state, who))),
-        5 => Outcome::Packed(pack_block(take_n(s, state, who, value as usize))),
-        6 => Outcome::Packed(pack_part(take_n_part(s, state, who, value as usize))),
-        _ => Outcome::NoCall,
+        0 => Repeated::Packed(pack(peek(s, state, who))),
+        1 => Repeated::Packed(pack(next(s, state, who))),
+        2 => Repeated::Packed(pack_read(read_if_value_cased(s, state, who, value))),
+        3 => Repeated::Packed(pack(next_all(s, state, who))),
+        4 => Repeated::Packed(pack_skip(skip_zeros(s, state, who))),
+        5 => Repeated::Packed(pack_block(take_n(s, state, who, value as usize))),
+        6 => Repeated::Packed(pack_part(take_n_part(s, state, who, value as usize))),
+        _ => Repeated::NoCall,
     }
 }
 
 // The call that `what` describes: its kind, the reader, the buffer's length, the cursor, the three counts, and a value, which is
 // a read's byte or a block's size.
-pub fn repeat(what: u64, format: Format, bytes: u64) -> Outcome {
+pub fn repeat(what: u64, format: Format, bytes: u64) -> Repeated
+    ensures { λ r. ⌜ r ≡ repeatedOf what format bytes ⌝ }
+{
     let buffer = buffer_of(bytes);
     let all: &[u8] = &buffer;
-    let size = byte_of(what, 2) as usize;
-    if size > all.len() {
-        return Outcome::NoCall;
+    let end = byte_of(what, 2) as usize;
+    if end > all.len() {
+        return Repeated::NoCall;
     }
     let who = reader_named(byte_of(what, 1));
     match who {
         Named::Known(reader) => made(
             byte_of(what, 0),
-            &all[0..size],
+            &all[0..end],
             state_of(what, format),
             reader,
             byte_of(what, 7),
         ),
-        Named::Unknown => Outcome::NoCall,
+        Named::Unknown => Repeated::NoCall,
     }
 }

@@ -1,7 +1,9 @@
 // Collects bytes into lines, however the reads cut them, and settles each line.
+ghost use mathlib.Core.Path.{_≡_};
+ghost use Rattle.vectors.specs.Lines.{beginning, filledRecord, lineEnded, byteTaken, allTaken, finished};
 use crate::record::Record;
 use crate::record::parse;
-use crate::replay::compare_any;
+use crate::replay::compare;
 use crate::report;
 use crate::tally::Tally;
 use crate::tally::one_more;
@@ -18,7 +20,9 @@ pub struct Progress {
 }
 
 impl Progress {
-    pub fn new() -> Self {
+    pub fn new() -> Self
+        ensures { λ r. ⌜ r ≡ beginning ⌝ }
+    {
         Progress {
             filled: 0,
             ended: 0,
@@ -29,7 +33,9 @@ impl Progress {
 }
 
 // Takes in what one read gave.
-pub fn take_in(chunk: &[u8], line: &mut [u8], mut progress: Progress) -> Progress {
+pub fn take_in(chunk: &[u8], line: &mut [u8], mut progress: Progress) -> Progress
+    ensures { λ r. ⌜ record { line = now (line .exit); progress = r } ≡ allTaken (now (chunk .entry)) (record { line = now (line .entry); progress = progress }) ⌝ }
+{
     let mut i = 0;
     while i < chunk.len() {
         let byte = chunk[i];
@@ -40,7 +46,9 @@ pub fn take_in(chunk: &[u8], line: &mut [u8], mut progress: Progress) -> Progres
 }
 
 // A line that fills the buffer is too long to be a record: what follows of it is dropped.
-fn take_byte(byte: u8, line: &mut [u8], mut progress: Progress) -> Progress {
+fn take_byte(byte: u8, line: &mut [u8], mut progress: Progress) -> Progress
+    ensures { λ r. ⌜ record { line = now (line .exit); progress = r } ≡ byteTaken byte (record { line = now (line .entry); progress = progress }) ⌝ }
+{
     if byte == b'\n' {
         return end_line(line, progress);
     }
@@ -53,14 +61,18 @@ fn take_byte(byte: u8, line: &mut [u8], mut progress: Progress) -> Progress {
 }
 
 // A last line needs no line end.
-pub fn finish(line: &[u8], progress: Progress) -> Progress {
+pub fn finish(line: &[u8], progress: Progress) -> Progress
+    ensures { λ r. ⌜ r ≡ finished (now (line .entry)) progress ⌝ }
+{
     if progress.filled == 0 {
         return progress;
     }
     end_line(line, progress)
 }
 
-fn parse_filled(line: &[u8], filled: usize) -> Record {
+fn parse_filled(line: &[u8], filled: usize) -> Record
+    ensures { λ r. ⌜ r ≡ filledRecord (now (line .entry)) filled ⌝ }
+{
     if filled < line.len() {
         return parse(&line[0..filled]);
     }
@@ -68,10 +80,12 @@ fn parse_filled(line: &[u8], filled: usize) -> Record {
 }
 
 // Compares a whole line, and tells it if it differs.
-fn end_line(line: &[u8], progress: Progress) -> Progress {
+fn end_line(line: &[u8], progress: Progress) -> Progress
+    ensures { λ r. ⌜ r ≡ lineEnded (now (line .entry)) progress ⌝ }
+{
     let parsed = parse_filled(line, progress.filled);
     let kind = parsed.kind;
-    let verdict = compare_any(parsed);
+    let verdict = compare(parsed);
     let ended = one_more(progress.ended);
     let told = report::tell(ended, verdict, progress.told);
     Progress {

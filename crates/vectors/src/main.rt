@@ -2,6 +2,7 @@
 // library the same, and says on standard output what differs and how much was compared.
 mod call;
 mod lines;
+mod packed;
 mod record;
 mod replay;
 mod report;

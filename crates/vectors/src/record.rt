@@ -1,8 +1,10 @@
 // A line of the record, taken apart: a letter for its kind, then fields, each a space and a number in upper-case hex.
-ghost use Prim.Native.Nat.{_≤_};
+ghost use Prim.Native.Nat.{_+_, _≤_};
 ghost use mathlib.Core.Path.{_≡_};
-ghost use lib.ListN.{length};
+ghost use lib.ListN.{length, drop};
 ghost use Rattle.vectors.specs.Hex.{hexValue, readHex};
+ghost use Rattle.vectors.specs.Line.{ofKind, noRecord, withField, untilSpace, recordOf};
+use crate::packed::pushed;
 
 // The kind of a line that is no record.
 pub const NO_RECORD: u8 = 0;
@@ -64,7 +66,9 @@ fn read_number(digits: &[u8]) -> Number
 }
 
 impl Record {
-    fn of_kind(kind: u8) -> Self {
+    fn of_kind(kind: u8) -> Self
+        ensures { λ r. ⌜ r ≡ ofKind kind ⌝ }
+    {
         Record {
             kind,
             count: 0,
@@ -74,12 +78,16 @@ impl Record {
     }
 
     // What a line that is no record gives.
-    pub fn none() -> Self {
+    pub fn none() -> Self
+        ensures { λ r. ⌜ r ≡ noRecord ⌝ }
+    {
         Record::of_kind(NO_RECORD)
     }
 
     // With one more field, given with the space before it.
-    fn with_field(mut self, field: &[u8]) -> Self {
+    fn with_field(mut self, field: &[u8]) -> Self
+        ensures { λ r. ⌜ r ≡ withField self (now (field .entry)) ⌝ }
+    {
         let count = self.count;
         if count >= FIELDS {
             return Record::none();
@@ -95,7 +103,7 @@ impl Record {
         };
         self.values[count] = value;
         self.count = count + 1;
-        self.shape = self.shape << 8 | (field.len() - 1) as u64;
+        self.shape = pushed(self.shape, field.len() - 1);
         self
     }
 }
@@ -103,7 +111,7 @@ impl Record {
 // The next space from `at` on, or the end of the line.
 fn field_end(line: &[u8], at: usize) -> usize
     requires { ⌜ at ≤ length (now line) ⌝ }
-    ensures { λ r. ⌜ (at ≤ r) × (r ≤ length (now (line .entry))) ⌝ }
+    ensures { λ r. ⌜ (r ≡ at + untilSpace (drop at (now (line .entry)))) × (r ≤ length (now (line .entry))) ⌝ }
 {
     let mut end = at;
     while end < line.len() {
@@ -116,7 +124,9 @@ fn field_end(line: &[u8], at: usize) -> usize
 }
 
 // Takes apart a line, given without its line end. Once a field is wrong, the kind stays NO_RECORD.
-pub fn parse(line: &[u8]) -> Record {
+pub fn parse(line: &[u8]) -> Record
+    ensures { λ r. ⌜ r ≡ recordOf (now (line .entry)) ⌝ }
+{
     if line.len() == 0 {
         return Record::none();
     }

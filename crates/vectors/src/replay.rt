@@ -3,8 +3,8 @@ ghost use mathlib.Core.Path.{_≡_};
 ghost use mathlib.Core.Bool.{cond};
 ghost use Rattle.word.specs.Check.{fullCheck, plainCheck};
 ghost use Rattle.word.specs.Digit.{isDigit};
-ghost use Rattle.vectors.specs.Replay.{verdict, orElse, verdictOf, wordVerdict, digitVerdict};
-use crate::call::Outcome;
+ghost use Rattle.vectors.specs.Replay.{verdict, orElse, verdictOf, wordVerdict, digitVerdict, callVerdict};
+use crate::call::Repeated;
 use crate::call::repeat;
 use crate::record::Record;
 use word::format_flags::Format;
@@ -46,14 +46,21 @@ pub enum Verdict {
 }
 
 // Compares what a record says with what our library says.
-pub fn compare_any(parsed: Record) -> Verdict {
-    if parsed.kind == CALL {
-        return compare_call(parsed);
+pub fn compare(parsed: Record) -> Verdict
+    ensures { λ r. ⌜ r ≡ verdictOf parsed ⌝ }
+{
+    let kind = parsed.kind;
+    match kind {
+        WORD => compare_word(parsed),
+        DIGIT => compare_digit(parsed),
+        CALL => compare_call(parsed),
+        _ => Verdict::NoRecord,
     }
-    compare(parsed)
 }
 
-fn compare_call(parsed: Record) -> Verdict {
+fn compare_call(parsed: Record) -> Verdict
+    ensures { λ r. ⌜ r ≡ callVerdict parsed ⌝ }
+{
     if parsed.shape != CALL_SHAPE {
         return Verdict::NoRecord;
     }
@@ -62,22 +69,10 @@ fn compare_call(parsed: Record) -> Verdict {
         lo: values[1],
         hi: values[2],
     };
-    let outcome = repeat(values[0], format, values[3]);
-    match outcome {
-        Outcome::Packed(answered) => settle(Answer::Call, values[4], answered),
-        Outcome::NoCall => Verdict::NoRecord,
-    }
-}
-
-// The same of words and digits.
-fn compare(parsed: Record) -> Verdict
-    ensures { λ r. ⌜ r ≡ verdictOf parsed ⌝ }
-{
-    let kind = parsed.kind;
-    match kind {
-        WORD => compare_word(parsed),
-        DIGIT => compare_digit(parsed),
-        _ => Verdict::NoRecord,
+    let repeated = repeat(values[0], format, values[3]);
+    match repeated {
+        Repeated::Packed(answered) => settle(Answer::Call, values[4], answered),
+        Repeated::NoCall => Verdict::NoRecord,
     }
 }
 

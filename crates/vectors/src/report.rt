@@ -1,4 +1,6 @@
 // What the program writes: a line for each of the first lines that differ, and a summary.
+ghost use mathlib.Core.Path.{_≡_};
+ghost use Rattle.vectors.specs.Lines.{toldAfter};
 use crate::replay::Answer;
 use crate::replay::Difference;
 use crate::replay::Verdict;
@@ -91,7 +93,9 @@ impl Text {
 }
 
 // Tells of a line that differs, unless enough are told, and answers how many are.
-pub fn tell(line: u64, verdict: Verdict, told: u64) -> u64 {
+pub fn tell(line: u64, verdict: Verdict, told: u64) -> u64
+    ensures { λ r. ⌜ r ≡ toldAfter told verdict ⌝ }
+{
     if told >= MOST_TOLD {
         return told;
     }
@@ -113,7 +117,7 @@ pub fn sum_up(tally: Tally) {
         .count(tally.words, b" words, ")
         .count(tally.digits, b" digits, ")
         .count(tally.calls, b" reader calls, ")
-        .number(tally.no_records)
+        .number(tally.others)
         .then(b" lines that are no record\n")
         .write();
 }

@@ -1,4 +1,6 @@
 // How many lines of each kind were compared, and how many of them differ.
+ghost use mathlib.Core.Path.{_≡_};
+ghost use Rattle.vectors.specs.Lines.{oneMore, oneLine, ofItsKind, tallied, noLines};
 use crate::record::NO_RECORD;
 use crate::replay::CALL;
 use crate::replay::DIGIT;
@@ -14,16 +16,20 @@ pub struct Tally {
     pub words: Count,
     pub digits: Count,
     pub calls: Count,
-    pub no_records: u64,
+    pub others: u64,
 }
 
 // One more, up to the largest number.
-pub fn one_more(n: u64) -> u64 {
+pub fn one_more(n: u64) -> u64
+    ensures { λ r. ⌜ r ≡ oneMore n ⌝ }
+{
     if n < u64::MAX { n + 1 } else { n }
 }
 
 impl Count {
-    fn with(mut self, differs: bool) -> Self {
+    fn with(mut self, differs: bool) -> Self
+        ensures { λ r. ⌜ r ≡ oneLine self differs ⌝ }
+    {
         self.lines = one_more(self.lines);
         if differs {
             self.differences = one_more(self.differences);
@@ -33,7 +39,9 @@ impl Count {
 }
 
 impl Tally {
-    pub fn new() -> Self {
+    pub fn new() -> Self
+        ensures { λ r. ⌜ r ≡ noLines ⌝ }
+    {
         let none = Count {
             lines: 0,
             differences: 0,
@@ -42,12 +50,14 @@ impl Tally {
             words: none,
             digits: none,
             calls: none,
-            no_records: 0,
+            others: 0,
         }
     }
 
     // With one more line.
-    pub fn with(self, kind: u8, verdict: Verdict) -> Self {
+    pub fn with(self, kind: u8, verdict: Verdict) -> Self
+        ensures { λ r. ⌜ r ≡ tallied self kind verdict ⌝ }
+    {
         match verdict {
             Verdict::Same => self.with_kind(kind, false),
             Verdict::Differs(_) => self.with_kind(kind, true),
@@ -56,7 +66,9 @@ impl Tally {
     }
 
     // A kind that has no count here is not passed over in silence.
-    fn with_kind(mut self, kind: u8, differs: bool) -> Self {
+    fn with_kind(mut self, kind: u8, differs: bool) -> Self
+        ensures { λ r. ⌜ r ≡ ofItsKind self kind differs ⌝ }
+    {
         match kind {
             WORD => {
                 let words = self.words.with(differs);
@@ -71,7 +83,7 @@ impl Tally {
                 self.calls = calls;
             }
             _ => {
-                self.no_records = one_more(self.no_records);
+                self.others = one_more(self.others);
             }
         }
         self

@@ -2,8 +2,10 @@
 
 mod drawn;
 mod examples;
+mod lengths;
 mod opens;
 mod order;
+mod pieces;
 mod refusals;
 mod runs;
 mod texts;
@@ -13,12 +15,15 @@ use super::records::Script;
 pub struct Case {
     pub name: String,
     pub script: Script,
+    /// Where each piece but the last ends; none where the script is given whole.
+    pub cuts: Vec<usize>,
 }
 
 fn case(name: impl Into<String>, script: Script) -> Case {
     Case {
         name: name.into(),
         script,
+        cuts: Vec::new(),
     }
 }
 
@@ -30,6 +35,8 @@ pub fn all(seed: u64) -> Vec<Case> {
     cases.extend(texts::cases());
     cases.extend(refusals::cases());
     cases.extend(order::cases());
+    cases.extend(lengths::cases());
+    cases.extend(pieces::cases(seed));
     cases.extend(drawn::cases(seed));
     cases
 }

@@ -12,7 +12,7 @@ use crate::rng::Rng;
 use crate::word::{Field, Word};
 
 /// What a program may well read or write at a time.
-const BUFFER: usize = 65_536;
+pub const BUFFER: usize = 65_536;
 
 const CALLS: u64 = 800_000;
 
@@ -70,7 +70,7 @@ fn many_opens(count: usize) -> Script {
 }
 
 /// Refused with 4.
-fn bad_separator() -> Word {
+pub fn bad_separator() -> Word {
     with_integer_flags(I).with_field(Field::Separator, b'1')
 }
 

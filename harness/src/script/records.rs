@@ -120,3 +120,15 @@ pub fn length(input: &[u8]) -> usize {
         .and_then(|&kind| BODIES.get(usize::from(kind)));
     input.len().min(1 + body.unwrap_or(&0))
 }
+
+/// Where the last record ends that is whole in the first `end` bytes.
+pub fn whole_until(input: &[u8], end: usize) -> usize {
+    let mut whole = 0;
+    loop {
+        let next = whole + length(&input[whole..]);
+        if next == whole || next > end {
+            return whole;
+        }
+        whole = next;
+    }
+}

@@ -1,0 +1,19 @@
+-- `vectors::packed::with_byte` meets its contract. Assumes nothing.
+use mathlib.Core.Path.{refl}
+use Rattle.vectors.specs.Packed.{withByte}
+use borrow.Author.Needs.{needs}
+use Rattle.vectors.proofs.packed.with_byte.Statement.{statement}
+use Rattle.vectors.proofs.packed.with_byte.Tie as tie
+
+mul-result : tie.Need-mul-result
+mul-result c = search needs
+
+add-result : tie.Need-add-result
+add-result c = search needs
+
+returns : tie.Need-returns
+unfolding withByte
+returns c = refl
+
+pub with-byte-spec : {M : Type 1} → statement M
+with-byte-spec = tie.close (tie.spec mul-result add-result returns)
