@@ -5,7 +5,7 @@ use mathlib.Core.List.{List}
 use denote.Ref.{RefT}
 
 -- A reference points into a block of memory, at an offset. The part p points into the lent slice's own block, `start` bytes behind
--- where the slice begins, and is these bytes long.
+-- where the slice begins, and these are its bytes.
 pub record PartOf (lent : RefT (List ℕ)) (start : ℕ) (contents : List ℕ) (p : RefT (List ℕ)) : Type 0 where
   pub block : p .ptr .0 ≡ lent .ptr .0
   pub offset : p .ptr .1 ≡ start + lent .ptr .1
