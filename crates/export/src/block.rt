@@ -31,19 +31,19 @@ pub struct PartReply {
 fn reply_of(answer: BlockAnswer) -> BlockReply
     ensures { λ r. ⌜ r ≡ blockWritten (blockOutcomeOf answer) ⌝ }
 {
-    let told = answer.told;
-    let block = told.block;
+    let report = answer.report;
+    let block = report.block;
     match block {
         Block::Taken => {
-            let numbers = numbers_of(0, answer.state, told.taken, told.passed);
+            let numbers = numbers_of(0, answer.state, report.taken, report.passed);
             BlockReply { numbers, found: 1 }
         }
         Block::None => {
-            let numbers = numbers_of(0, answer.state, told.taken, told.passed);
+            let numbers = numbers_of(0, answer.state, report.taken, report.passed);
             BlockReply { numbers, found: 0 }
         }
         Block::Refused(refusal) => {
-            let numbers = numbers_of(refusal.number(), answer.state, told.taken, told.passed);
+            let numbers = numbers_of(refusal.number(), answer.state, report.taken, report.passed);
             BlockReply { numbers, found: 0 }
         }
     }
@@ -53,13 +53,13 @@ fn reply_of(answer: BlockAnswer) -> BlockReply
 fn part_of(answer: BlockAnswer, cursor: usize) -> PartReply
     ensures { λ r. ⌜ r ≡ partWritten cursor (blockOutcomeOf answer) ⌝ }
 {
-    let told = answer.told;
-    let block = told.block;
+    let report = answer.report;
+    let block = report.block;
     match block {
         Block::Taken => PartReply {
             number: 0,
             start: cursor,
-            length: told.taken,
+            length: report.taken,
         },
         Block::None => PartReply {
             number: 0,

@@ -11,7 +11,7 @@ use reader::noskip;
 use reader::skip::Answer;
 use reader::skip::Count;
 use reader::skip::Seen;
-use reader::skip::Told;
+use reader::skip::Report;
 use reader::state::ExponentCount;
 use reader::state::FractionCount;
 use reader::state::IntegerCount;
@@ -136,16 +136,16 @@ fn seen_of_plain(seen: noskip::Seen) -> Seen
 fn answer_of_read(answer: ReadAnswer) -> Answer
     ensures { λ r. ⌜ outcomeOf r ≡ readOutcomeOf answer ⌝ }
 {
-    let read = answer.told;
+    let read = answer.report;
     let did = read.read;
     let seen = seen_of_read(did);
-    let told = Told {
+    let report = Report {
         seen,
         taken: read.taken,
         passed: read.passed,
     };
     let state = answer.state;
-    Answer { told, state }
+    Answer { report, state }
 }
 
 // An answer as numbers, where the byte's place has `old`.
@@ -183,10 +183,10 @@ fn plain_reply(seen: Seen, taken: usize, passed: usize, cursor: usize, old: u8) 
 pub(crate) fn reply_of(answer: Answer, old: u8) -> FullReply
     ensures { λ r. ⌜ r ≡ written old (outcomeOf answer) ⌝ }
 {
-    let told = answer.told;
-    let seen = told.seen;
+    let report = answer.report;
+    let seen = report.seen;
     let state = answer.state;
-    let reply = plain_reply(seen, told.taken, told.passed, state.cursor, old);
+    let reply = plain_reply(seen, report.taken, report.passed, state.cursor, old);
     FullReply {
         reply,
         integer: state.integer.0,

@@ -23,15 +23,15 @@ pub struct SkipReply {
 fn reply_of(answer: SkipAnswer, old: usize) -> SkipReply
     ensures { λ r. ⌜ r ≡ skipWritten old (skipOutcomeOf answer) ⌝ }
 {
-    let told = answer.told;
-    let skipped = told.skipped;
+    let report = answer.report;
+    let skipped = report.skipped;
     match skipped {
         Skipped::Zeros(zeros) => {
-            let numbers = numbers_of(0, answer.state, told.taken, told.passed);
+            let numbers = numbers_of(0, answer.state, report.taken, report.passed);
             SkipReply { numbers, zeros }
         }
         Skipped::Refused(refusal) => {
-            let numbers = numbers_of(refusal.number(), answer.state, told.taken, told.passed);
+            let numbers = numbers_of(refusal.number(), answer.state, report.taken, report.passed);
             SkipReply {
                 numbers,
                 zeros: old,

@@ -16,7 +16,7 @@ use Rattle.reader.specs.Place.{isSeparator}
 use Rattle.reader.specs.Reading.{Reading, flagsOf, syntaxOf, syntaxOn, readingWith, readingOn, isConsecutiveAlone, neighbourOf}
 use Rattle.reader.specs.Calls.{lineConsecutive}
 use Rattle.reader.specs.History.{Call}
-use Rattle.reader.specs.ByteTally.{NeverRefusedBy, runFresh, ByteTally}
+use Rattle.reader.specs.ByteTally.{NeverRefusedBy, traceFresh, ByteTally}
 use Rattle.reader.proofs.RuleLaws.{aSeparator, settles}
 use Rattle.reader.proofs.Settling.{separator-is, Settles}
 use Rattle.reader.proofs.Demand3.{byte-tally}
@@ -56,11 +56,11 @@ module _ (sheet : Sheet) (accepted : fullCheck (sheet .format) ≡ 0) where
 
   -- On such a list 18 is the only refusal.
   pub only-18 : (s : List ℕ) (calls : List Call) (number : ℕ) → 0 < number → (number ≡ 18 → ⊥)
-      → NeverRefusedBy number (runFresh readingOn s sheet calls .history)
+      → NeverRefusedBy number (traceFresh readingOn s sheet calls .history)
   only-18 s calls number some-number other =
       never-refused-by readingOn s sheet consecutive-holds number (λ e. omega arith) (λ e. other (sym e)) calls
 
   -- Cursor past the end, and counts above the cursor, never arise.
   pub never-16-nor-17 : (s : List ℕ) (calls : List Call)
-      → NeverRefusedBy 16 (runFresh readingOn s sheet calls .history) × NeverRefusedBy 17 (runFresh readingOn s sheet calls .history)
+      → NeverRefusedBy 16 (traceFresh readingOn s sheet calls .history) × NeverRefusedBy 17 (traceFresh readingOn s sheet calls .history)
   never-16-nor-17 s calls = (only-18 s calls 16 (omega arith) (λ e. omega arith), only-18 s calls 17 (omega arith) (λ e. omega arith))

@@ -11,29 +11,29 @@ use Rattle.reader.proofs.ShapeWith.{ArgType}
 use Rattle.word.proofs.byte_set.ByteSet as set
 use Rattle.word.proofs.byte_set.ByteSet.Laws as set′
 use Rattle.reader.proofs.iterator.ReadAnswer as read
-use Rattle.reader.proofs.iterator.ReadTold as read-told
-use Rattle.reader.proofs.iterator.ReadTold.Laws as read-told′
+use Rattle.reader.proofs.iterator.ReadReport as read-told
+use Rattle.reader.proofs.iterator.ReadReport.Laws as read-told′
 use Rattle.reader.proofs.skip.BlockAnswer as block
-use Rattle.reader.proofs.skip.BlockTold as block-told
-use Rattle.reader.proofs.skip.BlockTold.Laws as block-told′
+use Rattle.reader.proofs.skip.BlockReport as block-told
+use Rattle.reader.proofs.skip.BlockReport.Laws as block-told′
 use Rattle.reader.proofs.skip.Answer as answer
-use Rattle.reader.proofs.skip.Told as told
-use Rattle.reader.proofs.skip.Told.Laws as told′
+use Rattle.reader.proofs.skip.Report as report
+use Rattle.reader.proofs.skip.Report.Laws as told′
 use Rattle.reader.proofs.iterator.SkipAnswer as skip
-use Rattle.reader.proofs.iterator.SkipTold as skip-told
-use Rattle.reader.proofs.iterator.SkipTold.Laws as skip-told′
+use Rattle.reader.proofs.iterator.SkipReport as skip-told
+use Rattle.reader.proofs.iterator.SkipReport.Laws as skip-told′
 
 abbrev pub answers : AnswerType
 answers = record {
   name = answer.struct .name;
   Ans = Answer;
-  TT = told.the-type;
+  TT = report.the-type;
   TL = told′.the-laws;
   low = told′.lowers;
   pl = told′.the-plain;
-  told = λ a. a .told;
+  report = λ a. a .report;
   state = λ a. a .state;
-  make = λ t s. record { told = t; state = s };
+  make = λ t s. record { report = t; state = s };
   eta = λ a. refl;
   beta = λ v. refl;
 }
@@ -46,9 +46,9 @@ skip-answers = record {
   TL = skip-told′.the-laws;
   low = skip-told′.lowers;
   pl = skip-told′.the-plain;
-  told = λ a. a .told;
+  report = λ a. a .report;
   state = λ a. a .state;
-  make = λ t s. record { told = t; state = s };
+  make = λ t s. record { report = t; state = s };
   eta = λ a. refl;
   beta = λ v. refl;
 }
@@ -61,9 +61,9 @@ read-answers = record {
   TL = read-told′.the-laws;
   low = read-told′.lowers;
   pl = read-told′.the-plain;
-  told = λ a. a .told;
+  report = λ a. a .report;
   state = λ a. a .state;
-  make = λ t s. record { told = t; state = s };
+  make = λ t s. record { report = t; state = s };
   eta = λ a. refl;
   beta = λ v. refl;
 }
@@ -76,9 +76,9 @@ block-answers = record {
   TL = block-told′.the-laws;
   low = block-told′.lowers;
   pl = block-told′.the-plain;
-  told = λ a. a .told;
+  report = λ a. a .report;
   state = λ a. a .state;
-  make = λ t s. record { told = t; state = s };
+  make = λ t s. record { report = t; state = s };
   eta = λ a. refl;
   beta = λ v. refl;
 }

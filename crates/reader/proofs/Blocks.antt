@@ -50,15 +50,15 @@ module _ (m : Reading) (s : List ℕ) (st : State) (r : Reader) (n : ℕ) where
 
   -- of an answer: its block lies between the two cursors, and is the part of the definition
   module _ (a : BlockAnswer) (e : blockOutcomeOf a ≡ takeNOf m s st r n) where
-    bytes : blockBytes (a .told .block) (a .told .taken) ≡ takeNOf m s st r n .block
+    bytes : blockBytes (a .report .block) (a .report .taken) ≡ takeNOf m s st r n .block
     bytes = ap (λ (o : BlockOutcome). o .block) e
 
-    module _ (taken : a .told .block ≡ Taken) where
-      answered : takeNOf m s st r n .block ≡ some (a .told .taken)
-      answered = sym bytes ∙ ap (λ (b : Block). blockBytes b (a .told .taken)) taken
+    module _ (taken : a .report .block ≡ Taken) where
+      answered : takeNOf m s st r n .block ≡ some (a .report .taken)
+      answered = sym bytes ∙ ap (λ (b : Block). blockBytes b (a .report .taken)) taken
 
-      moves : (a .state .cursor ≡ st .cursor + a .told .taken) × (st .cursor + a .told .taken ≤ length s)
-      moves = rw (sym (ap (λ (o : BlockOutcome). o .state) e)) at (block-inside (a .told .taken) answered)
+      moves : (a .state .cursor ≡ st .cursor + a .report .taken) × (st .cursor + a .report .taken ≤ length s)
+      moves = rw (sym (ap (λ (o : BlockOutcome). o .state) e)) at (block-inside (a .report .taken) answered)
 
       pub part-within : (st .cursor ≤ a .state .cursor) × (a .state .cursor ≤ length s)
       part-within = (omega (arith, moves .0), omega (arith, moves .0, moves .1))
@@ -66,13 +66,13 @@ module _ (m : Reading) (s : List ℕ) (st : State) (r : Reader) (n : ℕ) where
       part-taken : take (a .state .cursor - st .cursor) (drop (st .cursor) s) ≡ takeNPart m s st r n
       unfolding takeNPart
       part-taken =
-          let same : a .state .cursor - st .cursor ≡ a .told .taken = omega (arith, moves .0) in
+          let same : a .state .cursor - st .cursor ≡ a .report .taken = omega (arith, moves .0) in
           rw (answered, same)
 
       part-start : st .cursor ≡ partStart (st .cursor) (takeNOf m s st r n .block)
       part-start = rw answered
 
-    module _ (nothing : blockBytes (a .told .block) (a .told .taken) ≡ none) where
+    module _ (nothing : blockBytes (a .report .block) (a .report .taken) ≡ none) where
       none-part : [] ≡ takeNPart m s st r n
       unfolding takeNPart
       none-part = rw (sym bytes, nothing)
@@ -86,7 +86,7 @@ sub lent start contents ghost = record { ptr = (lent .ptr .0, start + lent .ptr 
 
 -- the lent slice between the two cursors is the part of a block; where there is none, its empty part at the start is
 module _ (lent : RefT (List ℕ)) (st : State) (r : Reader) (n : ℕ) (a : BlockAnswer) (e : blockOutcomeOf a ≡ takeNOf (readingFor st r) (now lent) st r n) (ghost : GName) where
-  pub part-of-block : a .told .block ≡ Taken → BlockPart lent st r n (sub lent (st .cursor) (take (a .state .cursor - st .cursor) (drop (st .cursor) (now lent))) ghost)
+  pub part-of-block : a .report .block ≡ Taken → BlockPart lent st r n (sub lent (st .cursor) (take (a .state .cursor - st .cursor) (drop (st .cursor) (now lent))) ghost)
   part-of-block taken =
       let m = readingFor st r in
       record {
@@ -95,7 +95,7 @@ module _ (lent : RefT (List ℕ)) (st : State) (r : Reader) (n : ℕ) (a : Block
         bytes = part-taken m (now lent) st r n a e taken;
       }
 
-  pub part-of-none : blockBytes (a .told .block) (a .told .taken) ≡ none → BlockPart lent st r n (sub lent 0 [] ghost)
+  pub part-of-none : blockBytes (a .report .block) (a .report .taken) ≡ none → BlockPart lent st r n (sub lent 0 [] ghost)
   part-of-none nothing =
       let m = readingFor st r in
       record {

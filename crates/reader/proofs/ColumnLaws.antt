@@ -15,15 +15,15 @@ use Rattle.reader.specs.declared.state.Reader.{Reader}
 use Rattle.reader.specs.declared.state.Reader.the-variants.{Integer, Fraction, Exponent, Special}
 use Rattle.reader.specs.declared.state.State.{State}
 use Rattle.reader.specs.declared.passing.Syntax.{Syntax}
-use Rattle.reader.specs.declared.skip.Run.{Run}
+use Rattle.reader.specs.declared.skip.TakeSums.{TakeSums}
 use Rattle.reader.specs.declared.column.Totals.{Totals}
 use Rattle.reader.specs.State.{freshOf, isCounted, movedTo, countOf, withCount}
 use Rattle.reader.specs.Reading.{Reading, hasAnyFlag}
-use Rattle.reader.specs.Answer.{runOutcome}
-use Rattle.reader.specs.Calls.{nextAllOf, countedOnes}
+use Rattle.reader.specs.Answer.{sumsOutcome}
+use Rattle.reader.specs.Calls.{nextAllOf, ownCount}
 use Rattle.reader.specs.Pairs.{pairsOf}
 use Rattle.reader.specs.Column.{noTotals, cellTotals, totalsOf, partFrom}
-use Rattle.reader.specs.Ordinary.{Quick, Ordinary, fillsOf, isQuick, passing, doubles, beforeDigits, digitsIn, ordinaryTotals}
+use Rattle.reader.specs.Ordinary.{Countable, Ordinary, fillsOf, isQuick, passing, doubles, beforeDigits, digitsIn, ordinaryTotals}
 use Rattle.reader.proofs.Places.{no-separator}
 
 -- A part of a slice: its length, its bytes, and when it is an ordinary cell.
@@ -64,7 +64,7 @@ none-double x apart (b ∷ n ∷ l) unpaired (suc i) h e f =
     none-double x apart (n ∷ l) (omega arith) i (omega arith) e (rw add-one (rw add-one at f))
 
 -- the test by which the quick way is taken tells that the buffer is quick: runs are not passed, or it has none
-pub quick-told : (x : Syntax) (r : Reader) (s : List ℕ) (filled : Bool) → isQuick x r s filled ≡ true → Quick x r s
+pub quick-told : (x : Syntax) (r : Reader) (s : List ℕ) (filled : Bool) → isQuick x r s filled ≡ true → Countable x r s
 unfolding isQuick
 quick-told x r s filled q =
     let both = and-eq-true-iff _ (not (x .flags .consecutive) || (filled && eqb (pairsOf (doubles x) s) 0)) .0 q in
@@ -131,7 +131,7 @@ fresh-count f Exponent = refl
 fresh-count f Special = refl
 
 -- the count of a reader to which one is given
-own-count : (st : State) (r : Reader) (n : ℕ) → countOf (withCount st r n) r ≡ countedOnes r n
+own-count : (st : State) (r : Reader) (n : ℕ) → countOf (withCount st r n) r ≡ ownCount r n
 unfolding countOf withCount
 own-count st Integer n = refl
 own-count st Fraction n = refl
@@ -139,7 +139,7 @@ own-count st Exponent n = refl
 own-count st Special n = refl
 
 -- a reader's own count is at most the count that it is told
-pub counted-at-most : (r : Reader) (n : ℕ) → countedOnes r n ≤ n
+pub counted-at-most : (r : Reader) (n : ℕ) → ownCount r n ≤ n
 counted-at-most Integer n = omega arith
 counted-at-most Fraction n = omega arith
 counted-at-most Exponent n = omega arith
@@ -147,10 +147,10 @@ counted-at-most Special n = omega arith
 
 -- what a cell adds is what its run tells
 pub cell-told :
-    (m : Reading) (s : List ℕ) (f : Format) (r : Reader) (run : Run) (digits : ℕ)
-    → runOutcome (freshOf f) r run ≡ nextAllOf m s (freshOf f) r → digits ≡ countedOnes r (run .count)
+    (m : Reading) (s : List ℕ) (f : Format) (r : Reader) (run : TakeSums) (digits : ℕ)
+    → sumsOutcome (freshOf f) r run ≡ nextAllOf m s (freshOf f) r → digits ≡ ownCount r (run .count)
     → _≡_ {A = Totals} (record { taken = run .at - run .passed; passed = run .passed; digits = digits }) (cellTotals m f r s)
-cell-told m s f r run digits told own =
+cell-told m s f r run digits report own =
     let whole : run .at - 0 ≡ run .at = omega arith in
-    let known : totalsOf r (runOutcome (freshOf f) r run) ≡ cellTotals m f r s = ap (totalsOf r) told in
+    let known : totalsOf r (sumsOutcome (freshOf f) r run) ≡ cellTotals m f r s = ap (totalsOf r) report in
     rw own (rw (whole, own-count (movedTo (freshOf f) (run .at)) r (run .count)) at known)

@@ -12,27 +12,27 @@ use Rattle.reader.specs.Reading.{Reading}
 use Rattle.reader.specs.State.{Sheet, sheetOf, freshOn, countOf, movedTo}
 use Rattle.reader.specs.Answer.{Outcome}
 use Rattle.reader.specs.Calls.{peekOf, nextOf, readIfOf}
-use Rattle.reader.specs.History.{Call, peekBy, takeBy, readIfBy, zeroSkipBy, blockBy, Answered, takeAnswered, readAnswered, answerBy, answerTo, numberIn, takenIn, passedIn, returned, shownIn, Run, runFrom, withAnswer, runOf, totalOf, stepsOf}
-use Rattle.reader.specs.ByteTally.{CountsAgree, SkipsTold, WordKept, readerOf, Preceded, peeked, PeekChangesNothing, runFresh, ByteTally}
+use Rattle.reader.specs.History.{Call, peekBy, takeBy, readIfBy, zeroSkipBy, blockBy, Answered, takeAnswered, readAnswered, answerBy, answerTo, numberIn, takenIn, passedIn, returned, shownIn, Trace, traceFrom, withAnswer, traceOf, totalOf, stepsOf}
+use Rattle.reader.specs.ByteTally.{CountsAgree, SkipsTold, WordKept, readerOf, Preceded, peekBefore, PeekChangesNothing, traceFresh, ByteTally}
 use Rattle.reader.proofs.Settling.{Settles}
 use Rattle.reader.proofs.Peeking.{peeks}
-use Rattle.reader.proofs.Insertion.{stilled, take-after-peek, read-after-peek, take-passes, read-passes, zeros-same, state-same, passed-adds, skip-clear}
+use Rattle.reader.proofs.Insertion.{withoutPassed, take-after-peek, read-after-peek, take-passes, read-passes, zeros-same, state-same, passed-adds, skip-clear}
 use Rattle.reader.proofs.Tallies.{Tallied}
 use Rattle.reader.proofs.Answering.{Answering, answering}
-use Rattle.reader.proofs.SkipReads.{count-agrees, told, agreed}
+use Rattle.reader.proofs.SkipReads.{count-agrees, report, agreed}
 
 -- LISTS OF CALLS
 
 module _ (m : Sheet → Reader → Reading) (s : List ℕ) (sheet : Sheet) where
   -- what holds wherever a list has come to
-  pub record Kept (w : Run) : Type 0 where
+  pub record Kept (w : Trace) : Type 0 where
     pub tallied : Tallied (m sheet) s sheet (w .state) (stepsOf (w .history))
     pub cursor : w .state .cursor ≡ totalOf takenIn (w .history) + totalOf passedIn (w .history)
     pub agree : CountsAgree (m sheet) (w .history)
     pub skips : SkipsTold (w .history)
     pub word : WordKept sheet (w .history)
 
-  pub kept-fresh : Kept (runFrom (freshOn sheet))
+  pub kept-fresh : Kept (traceFrom (freshOn sheet))
   unfolding countOf
   kept-fresh =
       record {
@@ -50,10 +50,10 @@ module _ (m : Sheet → Reader → Reading) (s : List ℕ) (sheet : Sheet) where
       nothing-counted Special = refl
 
   -- the state's sheet is that of the list
-  pub own-word : (w : Run) → Kept w → (call : Call) → answerTo m s (w .state) call ≡ answerBy (m sheet) s (w .state) call
+  pub own-word : (w : Trace) → Kept w → (call : Call) → answerTo m s (w .state) call ≡ answerBy (m sheet) s (w .state) call
   own-word w so-far call = ap (λ (g : Sheet). answerBy (m g) s (w .state) call) (so-far .tallied .word)
 
-  pub kept-on : (w : Run) → Kept w → (call : Call) → Kept (withAnswer w (answerTo m s (w .state) call))
+  pub kept-on : (w : Trace) → Kept w → (call : Call) → Kept (withAnswer w (answerTo m s (w .state) call))
   kept-on w so-far call =
       let a = answerBy (m sheet) s (w .state) call in
       let answer = answering (m sheet) s sheet (w .state) (stepsOf (w .history)) (so-far .tallied) call in
@@ -62,34 +62,34 @@ module _ (m : Sheet → Reader → Reading) (s : List ℕ) (sheet : Sheet) where
         tallied = answer .tallied;
         cursor = omega (arith, answer .cursor, so-far .cursor);
         agree = (so-far .agree, λ r. count-agrees (m sheet) s (w .state) (w .history) r (agreed (m sheet) (w .history) (so-far .agree) r) call);
-        skips = (so-far .skips, told (m sheet) s (w .state) call);
+        skips = (so-far .skips, report (m sheet) s (w .state) call);
         word = (so-far .word, answer .tallied .word);
       } in
       subst (λ (b : Answered). Kept (withAnswer w b)) (sym (own-word w so-far call)) kept
 
-  pub kept-all : (calls : List Call) (w : Run) → Kept w → Kept (runOf m s w calls)
+  pub kept-all : (calls : List Call) (w : Trace) → Kept w → Kept (traceOf m s w calls)
   kept-all [] w so-far = so-far
   kept-all (call ∷ rest) w so-far = kept-all rest (withAnswer w (answerTo m s (w .state) call)) (kept-on w so-far call)
 
-  pub kept : (calls : List Call) → Kept (runFresh m s sheet calls)
-  kept calls = kept-all calls (runFrom (freshOn sheet)) kept-fresh
+  pub kept : (calls : List Call) → Kept (traceFresh m s sheet calls)
+  kept calls = kept-all calls (traceFrom (freshOn sheet)) kept-fresh
 
 -- THE INSERTED PEEK
 
 module _ (m : Sheet → Reader → Reading) (s : List ℕ) (st : State) (law : (r : Reader) → Settles (m (sheetOf st) r)) where
   -- a peek returns the sheet, so the call after it is by the same reading
-  word-seen : (call : Call) → sheetOf (returned (peeked m s st call)) ≡ sheetOf st
+  word-seen : (call : Call) → sheetOf (returned (peekBefore m s st call)) ≡ sheetOf st
   unfolding movedTo
   word-seen call = rw (peeks (m (sheetOf st) (readerOf call)) s st (readerOf call) .moves)
 
   after-peek : (call : Call)
-      → answerTo m s (returned (peeked m s st call)) call ≡ answerBy (m (sheetOf st)) s (returned (peeked m s st call)) call
-  after-peek call = ap (λ (g : Sheet). answerBy (m g) s (returned (peeked m s st call)) call) (word-seen call)
+      → answerTo m s (returned (peekBefore m s st call)) call ≡ answerBy (m (sheetOf st)) s (returned (peekBefore m s st call)) call
+  after-peek call = ap (λ (g : Sheet). answerBy (m g) s (returned (peekBefore m s st call)) call) (word-seen call)
 
   -- from an answer after the peek that shows the same and returns the same state
-  changes-nothing : (call : Call) (a : Answered) → answerBy (m (sheetOf st)) s (returned (peeked m s st call)) call ≡ a
+  changes-nothing : (call : Call) (a : Answered) → answerBy (m (sheetOf st)) s (returned (peekBefore m s st call)) call ≡ a
       → shownIn a ≡ shownIn (answerTo m s st call) → returned a ≡ returned (answerTo m s st call)
-      → passedIn (peeked m s st call) + passedIn a ≡ passedIn (answerTo m s st call)
+      → passedIn (peekBefore m s st call) + passedIn a ≡ passedIn (answerTo m s st call)
       → PeekChangesNothing m s st call
   changes-nothing call a is shown state passed =
       let same = after-peek call ∙ is in
@@ -97,19 +97,19 @@ module _ (m : Sheet → Reader → Reading) (s : List ℕ) (st : State) (law : (
       record {
         shown = ap shownIn same ∙ shown;
         state = to;
-        rest = λ calls. ap (λ (t : State). runOf m s (runFrom t) calls) to;
-        passed = ap (λ (b : Answered). passedIn (peeked m s st call) + passedIn b) same ∙ passed;
+        rest = λ calls. ap (λ (t : State). traceOf m s (traceFrom t) calls) to;
+        passed = ap (λ (b : Answered). passedIn (peekBefore m s st call) + passedIn b) same ∙ passed;
       }
 
   pub peek-changes-nothing : (call : Call) → Preceded m s st call → PeekChangesNothing m s st call
   peek-changes-nothing (peekBy r) never = absurd never
   peek-changes-nothing (takeBy r) allowed =
       let by = m (sheetOf st) r in
-      changes-nothing (takeBy r) (takeAnswered r (stilled (nextOf by s st r))) (ap (takeAnswered r) (take-after-peek by (law r) s st r)) refl refl
+      changes-nothing (takeBy r) (takeAnswered r (withoutPassed (nextOf by s st r))) (ap (takeAnswered r) (take-after-peek by (law r) s st r)) refl refl
       (rw (take-passes by (law r) s st r) (add-zero (peekOf by s st r .passed)))
   peek-changes-nothing (readIfBy r wanted) allowed =
       let by = m (sheetOf st) r in
-      changes-nothing (readIfBy r wanted) (readAnswered r (stilled (readIfOf by s st r wanted))) (ap (readAnswered r) (read-after-peek by (law r) s st r wanted)) refl refl
+      changes-nothing (readIfBy r wanted) (readAnswered r (withoutPassed (readIfOf by s st r wanted))) (ap (readAnswered r) (read-after-peek by (law r) s st r wanted)) refl refl
       (rw (read-passes by (law r) s st r wanted) (add-zero (peekOf by s st r .passed)))
   peek-changes-nothing (zeroSkipBy r) clear =
       let by = m (sheetOf st) r in
@@ -120,11 +120,11 @@ module _ (m : Sheet → Reader → Reading) (s : List ℕ) (st : State) (law : (
 
 -- a list of calls goes on from where its first part has come to, and from there by the state alone
 module _ (m : Sheet → Reader → Reading) (s : List ℕ) where
-  pub run-append : (a b : List Call) (w : Run) → runOf m s w (a ++ b) ≡ runOf m s (runOf m s w a) b
+  pub run-append : (a b : List Call) (w : Trace) → traceOf m s w (a ++ b) ≡ traceOf m s (traceOf m s w a) b
   run-append [] b w = refl
   run-append (call ∷ a) b w = run-append a b (withAnswer w (answerTo m s (w .state) call))
 
-  run-state : (calls : List Call) (v w : Run) → v .state ≡ w .state → runOf m s v calls .state ≡ runOf m s w calls .state
+  run-state : (calls : List Call) (v w : Trace) → v .state ≡ w .state → traceOf m s v calls .state ≡ traceOf m s w calls .state
   run-state [] v w same = same
   run-state (call ∷ rest) v w same =
       run-state rest (withAnswer v (answerTo m s (v .state) call)) (withAnswer w (answerTo m s (w .state) call))
@@ -132,16 +132,16 @@ module _ (m : Sheet → Reader → Reading) (s : List ℕ) where
 
 module _ (m : Sheet → Reader → Reading) (s : List ℕ) (sheet : Sheet) (law : (r : Reader) → Settles (m sheet r)) where
   -- the sheet of the list is that of the state before the call, so its readings settle there
-  peek-in-list : (before : List Call) (call : Call) → Preceded m s (runFresh m s sheet before .state) call
-      → PeekChangesNothing m s (runFresh m s sheet before .state) call
+  peek-in-list : (before : List Call) (call : Call) → Preceded m s (traceFresh m s sheet before .state) call
+      → PeekChangesNothing m s (traceFresh m s sheet before .state) call
   peek-in-list before call =
-      peek-changes-nothing m s (runFresh m s sheet before .state)
+      peek-changes-nothing m s (traceFresh m s sheet before .state)
       (λ r. subst (λ (g : Sheet). Settles (m g r)) (sym (kept m s sheet before .tallied .word)) (law r)) call
 
-  same-end : (before : List Call) (call : Call) (after : List Call) → Preceded m s (runFresh m s sheet before .state) call
-      → runFresh m s sheet (before ++ (peekBy (readerOf call) ∷ call ∷ after)) .state ≡ runFresh m s sheet (before ++ (call ∷ after)) .state
+  same-end : (before : List Call) (call : Call) (after : List Call) → Preceded m s (traceFresh m s sheet before .state) call
+      → traceFresh m s sheet (before ++ (peekBy (readerOf call) ∷ call ∷ after)) .state ≡ traceFresh m s sheet (before ++ (call ∷ after)) .state
   same-end before call after allowed =
-      rw (run-append m s before (peekBy (readerOf call) ∷ call ∷ after) (runFrom (freshOn sheet)), run-append m s before (call ∷ after) (runFrom (freshOn sheet)))
+      rw (run-append m s before (peekBy (readerOf call) ∷ call ∷ after) (traceFrom (freshOn sheet)), run-append m s before (call ∷ after) (traceFrom (freshOn sheet)))
       (run-state m s after _ _ (peek-in-list before call allowed .state))
 
   pub byte-tally : (calls : List Call) → ByteTally m s sheet calls
@@ -152,11 +152,11 @@ module _ (m : Sheet → Reader → Reading) (s : List ℕ) (sheet : Sheet) (law 
         inside = reached .tallied .inside;
         cursor = reached .cursor;
         runs = reached .tallied .runs;
-        counts = λ r. reached .tallied .counts r ∙ agreed (m sheet) (runFresh m s sheet calls .history) (reached .agree) r;
+        counts = λ r. reached .tallied .counts r ∙ agreed (m sheet) (traceFresh m s sheet calls .history) (reached .agree) r;
         agree = reached .agree;
         skips = reached .skips;
         peeks = λ before call after e. peek-in-list before call;
         inserted = λ before call after e allowed.
-            same-end before call after allowed ∙ ap (λ (l : List Call). runFresh m s sheet l .state) (sym e);
+            same-end before call after allowed ∙ ap (λ (l : List Call). traceFresh m s sheet l .state) (sym e);
         word = reached .word;
       }

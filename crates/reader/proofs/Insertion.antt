@@ -26,12 +26,12 @@ use Rattle.reader.proofs.Settling.{Settles, passes-no-more}
 use Rattle.reader.proofs.Peeking.{count-moved, turned-away, peek-inside, peek-counts}
 
 -- the same outcome with nothing passed
-abbrev pub stilled : Outcome → Outcome
-stilled o = record { refusal = o .refusal; byte = o .byte; taken = o .taken; passed = 0; state = o .state }
+abbrev pub withoutPassed : Outcome → Outcome
+withoutPassed o = record { refusal = o .refusal; byte = o .byte; taken = o .taken; passed = 0; state = o .state }
 
 -- the calls after what was seen look at it alone
 module _ (m : Reading) (r : Reader) (o : Outcome) where
-  take-stilled : (b : Option ℕ) → takeByte m r (stilled o) b ≡ stilled (takeByte m r o b)
+  take-stilled : (b : Option ℕ) → takeByte m r (withoutPassed o) b ≡ withoutPassed (takeByte m r o b)
   take-stilled none = refl
   take-stilled (some b) = refl
 
@@ -40,10 +40,10 @@ module _ (m : Reading) (r : Reader) (o : Outcome) where
   take-passed (some b) = refl
 
 module _ (wanted : ℕ → Bool) (o : Outcome) where
-  read-stilled : (b : Option ℕ) → readByteIf wanted (stilled o) b ≡ stilled (readByteIf wanted o b)
+  read-stilled : (b : Option ℕ) → readByteIf wanted (withoutPassed o) b ≡ withoutPassed (readByteIf wanted o b)
   read-stilled none = refl
   read-stilled (some b) = go (wanted b) refl where
-    go : (t : Bool) → wanted b ≡ t → readByteIf wanted (stilled o) (some b) ≡ stilled (readByteIf wanted o (some b))
+    go : (t : Bool) → wanted b ≡ t → readByteIf wanted (withoutPassed o) (some b) ≡ withoutPassed (readByteIf wanted o (some b))
     go true e = rw e
     go false e = rw e
 
@@ -54,7 +54,7 @@ module _ (wanted : ℕ → Bool) (o : Outcome) where
     go true e = rw e
     go false e = rw e
 
-raised-stilled : (r : Reader) (o : Outcome) (b : Option ℕ) → raised r (stilled o) b ≡ stilled (raised r o b)
+raised-stilled : (r : Reader) (o : Outcome) (b : Option ℕ) → raised r (withoutPassed o) b ≡ withoutPassed (raised r o b)
 raised-stilled r o none = refl
 raised-stilled r o (some b) = refl
 
@@ -64,26 +64,26 @@ raised-passed r o (some b) = refl
 
 -- calls told as one, from a first one that passed nothing
 module _ (o : Outcome) where
-  summed-taken : (rest : List Outcome) → summed (stilled o) rest .taken ≡ summed o rest .taken
+  summed-taken : (rest : List Outcome) → summed (withoutPassed o) rest .taken ≡ summed o rest .taken
   summed-taken [] = refl
   summed-taken (next ∷ rest) = refl
 
-  summed-state : (rest : List Outcome) → summed (stilled o) rest .state ≡ summed o rest .state
+  summed-state : (rest : List Outcome) → summed (withoutPassed o) rest .state ≡ summed o rest .state
   summed-state [] = refl
   summed-state (next ∷ rest) = refl
 
-  summed-passed : (rest : List Outcome) → o .passed + summed (stilled o) rest .passed ≡ summed o rest .passed
+  summed-passed : (rest : List Outcome) → o .passed + summed (withoutPassed o) rest .passed ≡ summed o rest .passed
   summed-passed [] = omega arith
   summed-passed (next ∷ rest) = omega arith
 
-  onward-same : (n : ℕ) (call : State → Outcome) → untilNone n call (stilled o) ≡ untilNone n call o
+  onward-same : (n : ℕ) (call : State → Outcome) → untilNone n call (withoutPassed o) ≡ untilNone n call o
   unfolding untilNone
   onward-same zero call = refl
   onward-same (suc n) call = refl
 
 module _ (m : Reading) (law : Settles m) (s : List ℕ) (st : State) (r : Reader) where
   -- a second peek sees what the first one saw, and passes nothing
-  seen-again : refusalOf m s st r ≡ 0 → peekOf m s (peeked m s st r .state) r ≡ stilled (peeked m s st r)
+  seen-again : refusalOf m s st r ≡ 0 → peekOf m s (peeked m s st r .state) r ≡ withoutPassed (peeked m s st r)
   unfolding peeked movedTo
   seen-again clear =
       let w = within (m .flags) s st r clear in
@@ -94,28 +94,28 @@ module _ (m : Reading) (law : Settles m) (s : List ℕ) (st : State) (r : Reader
       peek-admitted m s here r (still-admitted (m .flags) s st here r inside counts clear)
       ∙ rw (count-moved st (st .cursor + k) r, passes-no-more m law s (eqb (countOf st r) 0) (st .cursor), add-zero)
 
-  pub peek-twice : peekOf m s (peekOf m s st r .state) r ≡ stilled (peekOf m s st r)
+  pub peek-twice : peekOf m s (peekOf m s st r .state) r ≡ withoutPassed (peekOf m s st r)
   peek-twice = go (eqb (refusalOf m s st r) 0) refl where
-    go : (t : Bool) → eqb (refusalOf m s st r) 0 ≡ t → peekOf m s (peekOf m s st r .state) r ≡ stilled (peekOf m s st r)
+    go : (t : Bool) → eqb (refusalOf m s st r) 0 ≡ t → peekOf m s (peekOf m s st r .state) r ≡ withoutPassed (peekOf m s st r)
     go true t =
         let clear = eqb-true (refusalOf m s st r) 0 t in
         let seen = peek-admitted m s st r clear in
-        ap (λ (o : Outcome). peekOf m s (o .state) r) seen ∙ seen-again clear ∙ sym (ap stilled seen)
+        ap (λ (o : Outcome). peekOf m s (o .state) r) seen ∙ seen-again clear ∙ sym (ap withoutPassed seen)
     go false t =
         let seen = turned-away m s st r t in
-        ap (λ (o : Outcome). peekOf m s (o .state) r) seen ∙ seen ∙ sym (ap stilled seen)
+        ap (λ (o : Outcome). peekOf m s (o .state) r) seen ∙ seen ∙ sym (ap withoutPassed seen)
 
-  pub take-after-peek : nextOf m s (peekOf m s st r .state) r ≡ stilled (nextOf m s st r)
+  pub take-after-peek : nextOf m s (peekOf m s st r .state) r ≡ withoutPassed (nextOf m s st r)
   unfolding nextOf
   take-after-peek =
       ap (λ (o : Outcome). takeByte m r o (o .byte)) peek-twice ∙ take-stilled m r (peekOf m s st r) (peekOf m s st r .byte)
 
-  pub read-after-peek : (wanted : ℕ → Bool) → readIfOf m s (peekOf m s st r .state) r wanted ≡ stilled (readIfOf m s st r wanted)
+  pub read-after-peek : (wanted : ℕ → Bool) → readIfOf m s (peekOf m s st r .state) r wanted ≡ withoutPassed (readIfOf m s st r wanted)
   unfolding readIfOf
   read-after-peek wanted =
       ap (λ (o : Outcome). readByteIf wanted o (o .byte)) peek-twice ∙ read-stilled wanted (peekOf m s st r) (peekOf m s st r .byte)
 
-  zero-after-peek : zeroReadOf m s r (peekOf m s st r .state) ≡ stilled (zeroReadOf m s r st)
+  zero-after-peek : zeroReadOf m s r (peekOf m s st r .state) ≡ withoutPassed (zeroReadOf m s r st)
   unfolding zeroReadOf
   zero-after-peek =
       ap (λ (o : Outcome). raised r o (o .byte)) (read-after-peek isZero)
@@ -135,10 +135,10 @@ module _ (m : Reading) (law : Settles m) (s : List ℕ) (st : State) (r : Reader
 
   -- the reads of a zero skip after a peek
   zeros-after-peek : repeated (length s) (zeroReadOf m s r) (peekOf m s st r .state)
-      ≡ summed (stilled (zeroReadOf m s r st)) (untilNone (length s) (zeroReadOf m s r) (zeroReadOf m s r st))
+      ≡ summed (withoutPassed (zeroReadOf m s r st)) (untilNone (length s) (zeroReadOf m s r) (zeroReadOf m s r st))
   zeros-after-peek =
       ap (λ (o : Outcome). summed o (untilNone (length s) (zeroReadOf m s r) o)) zero-after-peek
-      ∙ ap (summed (stilled (zeroReadOf m s r st))) (onward-same (zeroReadOf m s r st) (length s) (zeroReadOf m s r))
+      ∙ ap (summed (withoutPassed (zeroReadOf m s r st))) (onward-same (zeroReadOf m s r st) (length s) (zeroReadOf m s r))
 
   -- a zero skip that answers 0 for a number is not refused
   pub skip-clear : skipZerosOf m s st r .refusal ≡ 0 → skipRefusal (m .flags) s st r ≡ 0
@@ -154,7 +154,7 @@ module _ (m : Reading) (law : Settles m) (s : List ℕ) (st : State) (r : Reader
     skips = sym (skip-admitted m s st r clear)
 
     skips-after-peek : skipZerosOf m s (peekOf m s st r .state) r
-        ≡ skipped (summed (stilled (zeroReadOf m s r st)) (untilNone (length s) (zeroReadOf m s r) (zeroReadOf m s r st)))
+        ≡ skipped (summed (withoutPassed (zeroReadOf m s r st)) (untilNone (length s) (zeroReadOf m s r) (zeroReadOf m s r st)))
     unfolding skipZerosOf
     skips-after-peek =
         let w = skip-within (m .flags) s st r clear in

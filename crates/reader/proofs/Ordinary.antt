@@ -23,9 +23,9 @@ use Rattle.reader.specs.Reading.{readingWith, hasAnyFlag, neighbourOf, p
 use Rattle.reader.specs.State.{freshOf, isCounted}
 use Rattle.reader.specs.Answer.{Outcome}
 use Rattle.reader.specs.Calls.{refusalWith, nextAllOf}
-use Rattle.reader.specs.Pairs.{hitsOf, pairsOf}
+use Rattle.reader.specs.Pairs.{matchesOf, pairsOf}
 use Rattle.reader.specs.Column.{totalsOf}
-use Rattle.reader.specs.Ordinary.{Quick, Ordinary, nothingBefore, passing, digitsIn, ordinaryTotals}
+use Rattle.reader.specs.Ordinary.{Countable, Ordinary, nothingBefore, passing, digitsIn, ordinaryTotals}
 use Rattle.reader.proofs.Places.{is-separator, no-separator}
 use Rattle.reader.proofs.Landings.{stays-on-other, stays-behind, passes-behind}
 use Rattle.reader.proofs.RuleLaws.{aSeparator, later-looks-behind, single-stops}
@@ -52,24 +52,24 @@ is-counted : (a b : Bool) → (a && b) ≡ true → b ≡ true
 is-counted true b e = e
 is-counted false b e = absurd (let z : _≡_ {A = ℕ} 0 1 = cc in omega arith)
 
-module _ (x : Syntax) (r : Reader) (s : List ℕ) (q : Quick x r s) where
+module _ (x : Syntax) (r : Reader) (s : List ℕ) (q : Countable x r s) where
   -- a byte that is a digit is no separator
   digit-is-other : (b : ℕ) → isDigit b (x .radix) ≡ true → b ≡ x .separator → ⊥
   digit-is-other b d e = let z : _≡_ {A = ℕ} 0 1 = let w = sym d ∙ ap (λ (n : ℕ). isDigit n (x .radix)) e ∙ q .apart in cc in omega arith
 
   -- a pair counts exactly where the rule holds of the byte behind the separator
   hit-is-rule : (b n : ℕ) → b ≡ x .separator
-      → hitsOf (passing x) b n ≡ ruleOf (x .flags) false nothingBefore (neighbourOf (readingWith x) (some n))
+      → matchesOf (passing x) b n ≡ ruleOf (x .flags) false nothingBefore (neighbourOf (readingWith x) (some n))
   unfolding neighbourOf readingWith isSeparator
   hit-is-rule b n e = go (isDigit n (x .radix)) (eqb n (x .separator)) refl refl where
     go : (d t : Bool) → isDigit n (x .radix) ≡ d → eqb n (x .separator) ≡ t
-        → hitsOf (passing x) b n ≡ ruleOf (x .flags) false nothingBefore (neighbourOf (readingWith x) (some n))
+        → matchesOf (passing x) b n ≡ ruleOf (x .flags) false nothingBefore (neighbourOf (readingWith x) (some n))
     go true true p u = absurd (digit-is-other n p (eqb-true n (x .separator) u))
     go true false p u = rw (eq-eqb b (x .separator) e, p, u, ne-eqb (x .separator) 0 (λ z. omega (arith, q .positive)))
     go false true p u = rw (eq-eqb b (x .separator) e, p, u, ne-eqb (x .separator) 0 (λ z. omega (arith, q .positive)))
     go false false p u = rw (eq-eqb b (x .separator) e, p, u, ne-eqb (x .separator) 0 (λ z. omega (arith, q .positive)))
 
-  no-hit : (b n : ℕ) → (b ≡ x .separator → ⊥) → hitsOf (passing x) b n ≡ false
+  no-hit : (b n : ℕ) → (b ≡ x .separator → ⊥) → matchesOf (passing x) b n ≡ false
   no-hit b n differ = rw (ne-eqb b (x .separator) differ)
 
   -- where a place has another byte than the separator, its pair does not count
@@ -98,20 +98,20 @@ module _ (x : Syntax) (r : Reader) (s : List ℕ) (q : Quick x r s) where
           go false c = rw (c, ← add-one at, drop-cons s (at + 1) 0 inside)
 
     rule-told : ruleOf (x .flags) false (previous (readingWith x) s at) (following (readingWith x) s at)
-        ≡ hitsOf (passing x) (getD s at 0) (getD s (at + 1) 0)
+        ≡ matchesOf (passing x) (getD s at 0) (getD s (at + 1) 0)
     rule-told =
         ap (ruleOf (x .flags) false (previous (readingWith x) s at)) next-byte
         ∙ sym (later-looks-behind (x .flags) (previous (readingWith x) s at) (neighbourOf (readingWith x) (some (getD s (at + 1) 0))))
         ∙ sym (hit-is-rule (getD s at 0) (getD s (at + 1) 0) equal)
 
     -- a pair that counts has no separator for its second byte, so one separator is passed
-    hit-ends : hitsOf (passing x) (getD s at 0) (getD s (at + 1) 0) ≡ true → getD s (at + 1) 0 ≡ x .separator → ⊥
+    hit-ends : matchesOf (passing x) (getD s at 0) (getD s (at + 1) 0) ≡ true → getD s (at + 1) 0 ≡ x .separator → ⊥
     hit-ends t e = go (x .flags .consecutive) refl where
       go : (c : Bool) → x .flags .consecutive ≡ c → ⊥
       go true c = q .single c at inside equal e
       go false c =
-          let stops : hitsOf (passing x) (getD s at 0) (x .separator) ≡ false = rw (eq-eqb (getD s at 0) (x .separator) equal, q .apart, eq-eqb (x .separator) (x .separator) refl) (single-stops (x .flags) nothingBefore c) in
-          let z : _≡_ {A = ℕ} 0 1 = let w = sym t ∙ ap (hitsOf (passing x) (getD s at 0)) e ∙ stops in cc in omega arith
+          let stops : matchesOf (passing x) (getD s at 0) (x .separator) ≡ false = rw (eq-eqb (getD s at 0) (x .separator) equal, q .apart, eq-eqb (x .separator) (x .separator) refl) (single-stops (x .flags) nothingBefore c) in
+          let z : _≡_ {A = ℕ} 0 1 = let w = sym t ∙ ap (matchesOf (passing x) (getD s at 0)) e ∙ stops in cc in omega arith
 
     run-of-one : isSeparator (x .separator) (getD s (at + 1) 0) ≡ false
         → at + 1 ≡ at + cond (x .flags .consecutive) (separatorRun (x .separator) (drop at s)) 1
@@ -122,14 +122,14 @@ module _ (x : Syntax) (r : Reader) (s : List ℕ) (q : Quick x r s) where
           rw (drop-cons s at 0 (omega arith), is-separator (x .separator) (getD s at 0) (q .positive) equal, drop-cons s (suc at) 0 (omega arith), behind)
       go false = refl
 
-    lands-behind : (isFirst : Bool) → isFirst ≡ false → hitsOf (passing x) (getD s at 0) (getD s (at + 1) 0) ≡ true
+    lands-behind : (isFirst : Bool) → isFirst ≡ false → matchesOf (passing x) (getD s at 0) (getD s (at + 1) 0) ≡ true
         → at + 1 ≡ at + passedAt (readingWith x) s isFirst at
     lands-behind isFirst later t =
         rw later
         (passes-behind x s false at (omega arith) (q .positive) equal _ (sym rule-told) (at + 1) t
         (run-of-one (no-separator (x .separator) (getD s (at + 1) 0) (hit-ends t))))
 
-    stays-here : (isFirst : Bool) → isFirst ≡ false → hitsOf (passing x) (getD s at 0) (getD s (at + 1) 0) ≡ false
+    stays-here : (isFirst : Bool) → isFirst ≡ false → matchesOf (passing x) (getD s at 0) (getD s (at + 1) 0) ≡ false
         → at ≡ at + passedAt (readingWith x) s isFirst at
     stays-here isFirst later t = rw later (stays-behind x s false at (omega arith) (q .positive) equal _ (sym rule-told) t)
 
@@ -177,7 +177,7 @@ module _ (x : Syntax) (r : Reader) (s : List ℕ) (q : Quick x r s) where
 
         -- the separator here is passed, and the byte behind it taken
         takes-next : (inside : at + 1 < length s) (equal : getD s at 0 ≡ x .separator)
-            → hitsOf (passing x) (getD s at 0) (getD s (at + 1) 0) ≡ true → Tells at count passed
+            → matchesOf (passing x) (getD s at 0) (getD s (at + 1) 0) ≡ true → Tells at count passed
         unfolding readingWith
         takes-next inside equal t =
             let d = isDigit (getD s (at + 1) 0) (x .radix) in
@@ -211,8 +211,8 @@ module _ (x : Syntax) (r : Reader) (s : List ℕ) (q : Quick x r s) where
           go true t =
               let equal = eqb-true (getD s at 0) (x .separator) t in
               let inside = not-last h equal in
-              judged inside equal (hitsOf (passing x) (getD s at 0) (getD s (at + 1) 0)) refl where
-                judged : (inside : at + 1 < length s) (equal : getD s at 0 ≡ x .separator) (u : Bool) → hitsOf (passing x) (getD s at 0) (getD s (at + 1) 0) ≡ u → Tells at count passed
+              judged inside equal (matchesOf (passing x) (getD s at 0) (getD s (at + 1) 0)) refl where
+                judged : (inside : at + 1 < length s) (equal : getD s at 0 ≡ x .separator) (u : Bool) → matchesOf (passing x) (getD s at 0) (getD s (at + 1) 0) ≡ u → Tells at count passed
                 judged inside equal true u = takes-next inside equal u
                 judged inside equal false u =
                     let none : pairsOf (passing x) (drop at s) ≡ pairsOf (passing x) (drop (at + 1) s) = rw (add-one, one-pair (passing x) s at (omega arith), rw add-one at u) (omega arith) in

@@ -73,8 +73,8 @@ seen-back (seen.Refused e) = refused-back seen.Byte seen.End seen.Refused e
 pub outcome-tells : (a b : Answer) → outcomeOf a ≡ outcomeOf b → a ≡ b
 outcome-tells =
     tells outcomeOf
-    (λ (o : Outcome). record { told = record { seen = seenFrom (o .refusal) (o .byte); taken = o .taken; passed = o .passed }; state = o .state })
-    (λ a. ap (λ (x : Seen). record { told = record { seen = x; taken = a .told .taken; passed = a .told .passed }; state = a .state }) (seen-back (a .told .seen)))
+    (λ (o : Outcome). record { report = record { seen = seenFrom (o .refusal) (o .byte); taken = o .taken; passed = o .passed }; state = o .state })
+    (λ a. ap (λ (x : Seen). record { report = record { seen = x; taken = a .report .taken; passed = a .report .passed }; state = a .state }) (seen-back (a .report .seen)))
 
 -- a conditional read's
 abbrev readFrom : ℕ → Option ℕ → Read
@@ -88,8 +88,8 @@ read-back (read.Refused e) = refused-back read.Taken read.Declined read.Refused 
 pub read-outcome-tells : (a b : ReadAnswer) → readOutcomeOf a ≡ readOutcomeOf b → a ≡ b
 read-outcome-tells =
     tells readOutcomeOf
-    (λ (o : Outcome). record { told = record { read = readFrom (o .refusal) (o .byte); taken = o .taken; passed = o .passed }; state = o .state })
-    (λ a. ap (λ (x : Read). record { told = record { read = x; taken = a .told .taken; passed = a .told .passed }; state = a .state }) (read-back (a .told .read)))
+    (λ (o : Outcome). record { report = record { read = readFrom (o .refusal) (o .byte); taken = o .taken; passed = o .passed }; state = o .state })
+    (λ a. ap (λ (x : Read). record { report = record { read = x; taken = a .report .taken; passed = a .report .passed }; state = a .state }) (read-back (a .report .read)))
 
 -- a zero skip's: it has no third case
 abbrev skippedFrom : ℕ → Option ℕ → Skipped
@@ -102,8 +102,8 @@ skipped-back (skipped.Refused e) = refused-back skipped.Zeros (skipped.Zeros 0) 
 pub skip-outcome-tells : (a b : SkipAnswer) → skipOutcomeOf a ≡ skipOutcomeOf b → a ≡ b
 skip-outcome-tells =
     tells skipOutcomeOf
-    (λ (o : SkipOutcome). record { told = record { skipped = skippedFrom (o .refusal) (o .zeros); taken = o .taken; passed = o .passed }; state = o .state })
-    (λ a. ap (λ (x : Skipped). record { told = record { skipped = x; taken = a .told .taken; passed = a .told .passed }; state = a .state }) (skipped-back (a .told .skipped)))
+    (λ (o : SkipOutcome). record { report = record { skipped = skippedFrom (o .refusal) (o .zeros); taken = o .taken; passed = o .passed }; state = o .state })
+    (λ a. ap (λ (x : Skipped). record { report = record { skipped = x; taken = a .report .taken; passed = a .report .passed }; state = a .state }) (skipped-back (a .report .skipped)))
 
 -- a block take's: how many bytes its block has is told apart from its case
 abbrev blockCaseFrom : ℕ → Option ℕ → Block
@@ -117,8 +117,8 @@ block-back (block.Refused e) taken = refused-back (λ k. block.Taken) block.None
 pub block-outcome-tells : (a b : BlockAnswer) → blockOutcomeOf a ≡ blockOutcomeOf b → a ≡ b
 block-outcome-tells =
     tells blockOutcomeOf
-    (λ (o : BlockOutcome). record { told = record { block = blockCaseFrom (o .refusal) (o .block); taken = o .taken; passed = o .passed }; state = o .state })
-    (λ a. ap (λ (x : Block). record { told = record { block = x; taken = a .told .taken; passed = a .told .passed }; state = a .state }) (block-back (a .told .block) (a .told .taken)))
+    (λ (o : BlockOutcome). record { report = record { block = blockCaseFrom (o .refusal) (o .block); taken = o .taken; passed = o .passed }; state = o .state })
+    (λ a. ap (λ (x : Block). record { report = record { block = x; taken = a .report .taken; passed = a .report .passed }; state = a .state }) (block-back (a .report .block) (a .report .taken)))
 
 -- what `current_count` answers
 abbrev countFrom : ℕ → Option ℕ → Count

@@ -6,7 +6,7 @@ use Prim.Native.Nat.{ℕ, zero, suc, _+_, _-_, _≤_, _<_}
 use native.Mathlib.Omega.{arith}
 use lib.ListN.{length, take, drop, getD, length-drop, length-take}
 use lib.Seq.{drop-nil, drop-drop, take-all}
-use Rattle.reader.specs.Pairs.{hitsOf, pairsOf}
+use Rattle.reader.specs.Pairs.{matchesOf, pairsOf}
 use Rattle.reader.specs.declared.pairs.Pairs.{Pairs}
 
 -- which kind a byte is of, told without a branch
@@ -25,7 +25,7 @@ at-most-one false = omega arith
 module _ (p : Pairs) where
   -- one byte of a list counts or not, and the rest is counted from the next on
   pub one-pair : (s : List ℕ) (j : ℕ) → suc j < length s
-      → pairsOf p (drop j s) ≡ cond (hitsOf p (getD s j 0) (getD s (suc j) 0)) 1 0 + pairsOf p (drop (suc j) s)
+      → pairsOf p (drop j s) ≡ cond (matchesOf p (getD s j 0) (getD s (suc j) 0)) 1 0 + pairsOf p (drop (suc j) s)
   one-pair [] j h = absurd (omega arith)
   one-pair (b ∷ []) j h = absurd (omega arith)
   one-pair (b ∷ n ∷ s) zero h = refl
@@ -42,7 +42,7 @@ module _ (p : Pairs) where
   pub pairs-below : (s : List ℕ) → 0 < length s → pairsOf p s < length s
   pairs-below [] h = absurd (omega arith)
   pairs-below (b ∷ []) h = omega arith
-  pairs-below (b ∷ n ∷ s) h = omega (arith, at-most-one (hitsOf p b n), pairs-below (n ∷ s) (omega arith))
+  pairs-below (b ∷ n ∷ s) h = omega (arith, at-most-one (matchesOf p b n), pairs-below (n ∷ s) (omega arith))
 
   -- two parts that share a byte have together the pairs of the whole
   shared-byte : (s : List ℕ) (k : ℕ) → pairsOf p (take (suc k) s) + pairsOf p (drop k s) ≡ pairsOf p s
@@ -56,7 +56,7 @@ module _ (p : Pairs) (s : List ℕ) (i count : ℕ) (begun : 1 ≤ i) (same : co
   -- one turn counts the pair of this byte and the one before it
   pub pair-turn :
       i < length s
-      → cond (hitsOf p (getD s (i - 1) 0) (getD s i 0)) 1 0 + count + pairsOf p (drop (i + 1 - 1) s) ≡ pairsOf p s
+      → cond (matchesOf p (getD s (i - 1) 0) (getD s i 0)) 1 0 + count + pairsOf p (drop (i + 1 - 1) s) ≡ pairsOf p s
   pair-turn h =
       let next : suc (i - 1) ≡ i = omega arith in
       let back : i + 1 - 1 ≡ i = omega arith in

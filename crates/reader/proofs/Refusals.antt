@@ -14,8 +14,8 @@ use Rattle.reader.specs.declared.state.State.{State}
 use Rattle.reader.specs.Reading.{Reading, isConsecutiveAlone}
 use Rattle.reader.specs.State.{Sheet, countSum, freshOn}
 use Rattle.reader.specs.Calls.{lineConsecutive}
-use Rattle.reader.specs.History.{Call, peekBy, takeBy, readIfBy, zeroSkipBy, blockBy, Answered, answerBy, answerTo, numberIn, Run, runFrom, withAnswer, runOf}
-use Rattle.reader.specs.ByteTally.{NeverRefusedBy, runFresh}
+use Rattle.reader.specs.History.{Call, peekBy, takeBy, readIfBy, zeroSkipBy, blockBy, Answered, answerBy, answerTo, numberIn, Trace, traceFrom, withAnswer, traceOf}
+use Rattle.reader.specs.ByteTally.{NeverRefusedBy, traceFresh}
 use Rattle.reader.specs.RefusalKeeps.{PlaceFault, SpecialFault, OwnFault, Fault, ResultOrRefusal}
 use Rattle.reader.proofs.Demand1.{result-or-refusal}
 use Rattle.reader.proofs.Demand3.{Kept, kept-fresh, kept-on, own-word}
@@ -52,16 +52,16 @@ module _ (m : Reader → Reading) (s : List ℕ) (st : State) (own : (r : Reader
 module _ (m : Sheet → Reader → Reading) (s : List ℕ) (sheet : Sheet) (own : (r : Reader) → lineConsecutive (m sheet r .flags) r ≡ 0)
     (number : ℕ) (success : 0 ≡ number → ⊥) (special : 18 ≡ number → ⊥)
   where
-    never-on : (calls : List Call) (w : Run) → Kept m s sheet w → NeverRefusedBy number (w .history) → NeverRefusedBy number (runOf m s w calls .history)
+    never-on : (calls : List Call) (w : Trace) → Kept m s sheet w → NeverRefusedBy number (w .history) → NeverRefusedBy number (traceOf m s w calls .history)
     never-on [] w so-far never = never
     never-on (call ∷ rest) w so-far never =
         let here = so-far .tallied in
-        let told : (numberIn (answerBy (m sheet) s (w .state) call) ≡ 0) ⊎ (numberIn (answerBy (m sheet) s (w .state) call) ≡ 18)
+        let report : (numberIn (answerBy (m sheet) s (w .state) call) ≡ 0) ⊎ (numberIn (answerBy (m sheet) s (w .state) call) ≡ 18)
         = result-or-18 (m sheet) s (w .state) own (here .inside) (here .sums) call in
         let other : numberIn (answerTo m s (w .state) call) ≡ number → ⊥ =
         subst (λ (a : Answered). numberIn a ≡ number → ⊥) (sym (own-word m s sheet w so-far call))
-        (λ e. ⊎-elim (λ z. success (sym z ∙ e)) (λ z. special (sym z ∙ e)) told) in
+        (λ e. ⊎-elim (λ z. success (sym z ∙ e)) (λ z. special (sym z ∙ e)) report) in
         never-on rest (withAnswer w (answerTo m s (w .state) call)) (kept-on m s sheet w so-far call) (never, other)
 
-    pub never-refused-by : (calls : List Call) → NeverRefusedBy number (runFresh m s sheet calls .history)
-    never-refused-by calls = never-on calls (runFrom (freshOn sheet)) (kept-fresh m s sheet) tt
+    pub never-refused-by : (calls : List Call) → NeverRefusedBy number (traceFresh m s sheet calls .history)
+    never-refused-by calls = never-on calls (traceFrom (freshOn sheet)) (kept-fresh m s sheet) tt

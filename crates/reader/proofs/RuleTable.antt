@@ -6,7 +6,7 @@ use lib.Dec.{T, eqb}
 use borrow.Author.Tests.{eq-eqb}
 use Rattle.word.specs.Bits.{bit}
 use Rattle.reader.specs.declared.rule.Flags.{Flags}
-use Rattle.reader.specs.declared.rule.Named.{Named}
+use Rattle.reader.specs.declared.rule.Wanted.{Wanted}
 use Rattle.reader.specs.declared.rule.Neighbour.{Neighbour}
 use Rattle.reader.specs.Rule.{ruleOf, namesOf}
 use Rattle.reader.specs.RuleData.{cellOf, codeOf}
@@ -73,14 +73,14 @@ entry-holds k word t e flags isFirst p n h =
     same _ _ (pair-at _ (rw (eq-eqb (cellOf flags isFirst) k (sym h ∙ e)) at (cell-at _ t flags isFirst)) p n)
 
 -- two masks: the cells that name the previous neighbour, and those that name the next
-abbrev namedBy : ℕ → ℕ → Flags → Bool → Named
+abbrev namedBy : ℕ → ℕ → Flags → Bool → Wanted
 namedBy previous next flags isFirst =
     record { previous = bit previous (cellOf flags isFirst); next = bit next (cellOf flags isFirst) }
 
-abbrev sameNamed : Named → Named → Bool
+abbrev sameNamed : Wanted → Wanted → Bool
 sameNamed a b = Bool·beq (a .previous) (b .previous) && Bool·beq (a .next) (b .next)
 
-same-named : (a b : Named) → T (sameNamed a b) → a ≡ b
+same-named : (a b : Wanted) → T (sameNamed a b) → a ≡ b
 same-named a b t =
     let p = Bool·beq (a .previous) (b .previous) in
     let n = Bool·beq (a .next) (b .next) in

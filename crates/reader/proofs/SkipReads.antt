@@ -15,7 +15,7 @@ use Rattle.reader.specs.declared.state.State.{State}
 use Rattle.reader.specs.Reading.{Reading}
 use Rattle.reader.specs.Answer.{Outcome}
 use Rattle.reader.specs.Calls.{refusalOf, peeked, peekOf, readByteIf, readIfOf}
-use Rattle.reader.specs.Repeat.{summed, whereByte, untilNone, repeated}
+use Rattle.reader.specs.Repeat.{summed, ifByte, untilNone, repeated}
 use Rattle.reader.specs.ZeroSkip.{isZero, raised, zeroReadOf, zeroReadsOf, skipRefusal, skipped, skipZerosOf}
 use Rattle.reader.specs.History.{Call, peekBy, takeBy, readIfBy, zeroSkipBy, blockBy, Answered, readsMade, answerBy, aZeroRead, byteTaken, stepOf, zeroSteps, stepsOf, Step, zerosTold, countsFor, historyCount, stepCount}
 use Rattle.reader.specs.ByteTally.{CountsAgree, readsThatTook, takenByReads, passedByReads, ZerosThenNone, SkipTold, AnswerTold}
@@ -78,14 +78,14 @@ module _ (m : Reading) (s : List ℕ) (r : Reader) where
 
   -- a read that took none is the last one, one that took a byte is not
   last-read : (st : State) (following : List Outcome) → refusalOf m s st r ≡ 0 → call st .byte ≡ none
-      → ZerosThenNone (call st ∷ whereByte (call st .byte) following)
+      → ZerosThenNone (call st ∷ ifByte (call st .byte) following)
   last-read st following clear e =
-      subst (λ (b : Option ℕ). ZerosThenNone (call st ∷ whereByte b following)) (sym e) (e, took st none e, zero-clear m s st r clear)
+      subst (λ (b : Option ℕ). ZerosThenNone (call st ∷ ifByte b following)) (sym e) (e, took st none e, zero-clear m s st r clear)
 
   read-more : (st : State) (b : ℕ) (next : Outcome) (rest : List Outcome) → refusalOf m s st r ≡ 0 → call st .byte ≡ some b
-      → ZerosThenNone (next ∷ rest) → ZerosThenNone (call st ∷ whereByte (call st .byte) (next ∷ rest))
+      → ZerosThenNone (next ∷ rest) → ZerosThenNone (call st ∷ ifByte (call st .byte) (next ∷ rest))
   read-more st b next rest clear e then =
-      subst (λ (b : Option ℕ). ZerosThenNone (call st ∷ whereByte b (next ∷ rest))) (sym e)
+      subst (λ (b : Option ℕ). ZerosThenNone (call st ∷ ifByte b (next ∷ rest))) (sym e)
       (zero-read m s st r b e, took st (some b) e, zero-clear m s st r clear, then)
 
   -- each took a `0` until one took none, if as many may follow the first as there are bytes left
@@ -99,7 +99,7 @@ module _ (m : Reading) (s : List ℕ) (r : Reader) where
     go :
         (o : Option ℕ) → call st .byte ≡ o
         → (length s ≤ call st .state .cursor + n → ZerosThenNone (call (call st .state) ∷ untilNone n call (call (call st .state))))
-        → ZerosThenNone (call st ∷ whereByte (call st .byte) (call (call st .state) ∷ untilNone n call (call (call st .state))))
+        → ZerosThenNone (call st ∷ ifByte (call st .byte) (call (call st .state) ∷ untilNone n call (call (call st .state))))
     go none e rest = last-read st _ clear e
     go (some b) e rest = read-more st b _ _ clear e (rest (omega (arith, zero-takes-one m s st r b e .moves)))
 
@@ -183,12 +183,12 @@ module _ (m : Reader → Reading) (s : List ℕ) (st : State) (earlier : List An
   count-agrees (blockBy r n) = uncounted r
 
 module _ (m : Reader → Reading) where
-  pub told : (s : List ℕ) (st : State) (call : Call) → AnswerTold (answerBy m s st call)
-  told s st (peekBy r) = tt
-  told s st (takeBy r) = tt
-  told s st (readIfBy r wanted) = tt
-  told s st (zeroSkipBy r) = skip-told (m r) s st r
-  told s st (blockBy r n) = tt
+  pub report : (s : List ℕ) (st : State) (call : Call) → AnswerTold (answerBy m s st call)
+  report s st (peekBy r) = tt
+  report s st (takeBy r) = tt
+  report s st (readIfBy r wanted) = tt
+  report s st (zeroSkipBy r) = skip-told (m r) s st r
+  report s st (blockBy r n) = tt
 
   pub agreed : (history : List Answered) → CountsAgree m history → (r : Reader) → stepCount m r (stepsOf history) ≡ historyCount m r history
   agreed [] agree r = refl

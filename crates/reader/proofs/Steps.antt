@@ -21,7 +21,7 @@ use Rattle.reader.specs.Answer.{Outcome}
 use Rattle.reader.specs.Calls.{refusalWith, peekOf, takenFrom, takeByte, nextOf, readIfOf}
 use Rattle.reader.specs.ZeroSkip.{isZero, raised, zeroReadOf}
 use Rattle.reader.specs.Block.{blockRefusal, takeNOf, takeNPart}
-use Rattle.reader.specs.History.{Kind, aPeek, aTake, aRead, aZeroRead, aBlock, Step, byteTaken, stepOf, digitsIn, worth, countsFor}
+use Rattle.reader.specs.History.{Kind, aPeek, aTake, aRead, aZeroRead, aBlock, Step, byteTaken, stepOf, digitsIn, digitsCounted, countsFor}
 use Rattle.reader.proofs.Admission.{within, still-admitted}
 use Rattle.reader.proofs.ReadCases.{read-cases}
 use Rattle.reader.proofs.Takes.{byte-inside}
@@ -33,7 +33,7 @@ pub record Moves (m : Reader → Reading) (s : List ℕ) (st : State) (e : Step)
   pub bytes : take (length (e .bytes)) (drop (st .cursor + e .passed) s) ≡ e .bytes
   pub only : take (e .passed) (drop (st .cursor) s) ≡ replicate (e .passed) (m (e .reader) .separator)
   pub by-rule : 0 < e .passed → mayPass (m (e .reader)) s (eqb (countOf st (e .reader)) 0) (st .cursor) ≡ true
-  pub counts : (q : Reader) → countOf then q ≡ countOf st q + cond (countsFor q (e .reader)) (worth (m (e .reader)) (e .kind) (e .bytes)) 0
+  pub counts : (q : Reader) → countOf then q ≡ countOf st q + cond (countsFor q (e .reader)) (digitsCounted (m (e .reader)) (e .kind) (e .bytes)) 0
   pub sums : countSum then ≤ countSum st + length (e .bytes)
   pub inside : st .cursor ≤ length s → then .cursor ≤ length s
   pub word : sheetOf then ≡ sheetOf st
@@ -52,12 +52,12 @@ cond-none true = refl
 cond-none false = refl
 
 -- without bytes a step adds to no count
-worth-none : (m : Reading) (kind : Kind) → worth m kind [] ≡ 0
-worth-none m aPeek = refl
-worth-none m aTake = cond-none (hasAnyFlag (m .flags))
-worth-none m aRead = refl
-worth-none m aZeroRead = refl
-worth-none m aBlock = refl
+counted-none : (m : Reading) (kind : Kind) → digitsCounted m kind [] ≡ 0
+counted-none m aPeek = refl
+counted-none m aTake = cond-none (hasAnyFlag (m .flags))
+counted-none m aRead = refl
+counted-none m aZeroRead = refl
+counted-none m aBlock = refl
 
 counted-adds : (st : State) (r q : Reader) → countOf (countedBy st r) q ≡ countOf st q + cond (countsFor q r) 1 0
 unfolding countOf countedBy
@@ -95,7 +95,7 @@ counted-keeps st Special = (refl, refl)
 -- A state behind one byte that the reader r took as a step of this kind.
 record Behind (m : Reader → Reading) (st : State) (r : Reader) (kind : Kind) (b : ℕ) (then : State) : Type 0 where
   cursor : then .cursor ≡ st .cursor + 1
-  counts : (q : Reader) → countOf then q ≡ countOf st q + cond (countsFor q r) (worth (m r) kind (b ∷ [])) 0
+  counts : (q : Reader) → countOf then q ≡ countOf st q + cond (countsFor q r) (digitsCounted (m r) kind (b ∷ [])) 0
   sums : countSum then ≤ countSum st + 1
   word : sheetOf then ≡ sheetOf st
 
@@ -104,7 +104,7 @@ module _ (m : Reader → Reading) (st : State) (r : Reader) (b : ℕ) where
   next = movedTo st (st .cursor + 1)
 
   -- the byte is counted, or it is not
-  counted-behind : (kind : Kind) → worth (m r) kind (b ∷ []) ≡ 1 → Behind m st r kind b (countedBy next r)
+  counted-behind : (kind : Kind) → digitsCounted (m r) kind (b ∷ []) ≡ 1 → Behind m st r kind b (countedBy next r)
   unfolding movedTo
   counted-behind kind one =
       record {
@@ -114,7 +114,7 @@ module _ (m : Reader → Reading) (st : State) (r : Reader) (b : ℕ) where
         word = counted-keeps next r .1;
       }
 
-  moved-behind : (kind : Kind) → worth (m r) kind (b ∷ []) ≡ 0 → Behind m st r kind b next
+  moved-behind : (kind : Kind) → digitsCounted (m r) kind (b ∷ []) ≡ 0 → Behind m st r kind b next
   unfolding movedTo
   moved-behind kind nothing =
       record {
@@ -149,7 +149,7 @@ module _ (m : Reader → Reading) (s : List ℕ) (st : State) (r : Reader) (kind
         only = seen .only;
         by-rule = seen .by-rule;
         counts = λ q.
-            rw (seen .moves, worth-none (m r) kind, cond-none (countsFor q r), count-moved st (st .cursor + o .passed) q)
+            rw (seen .moves, counted-none (m r) kind, cond-none (countsFor q r), count-moved st (st .cursor + o .passed) q)
             (sym (add-zero (countOf st q)));
         sums = rw (seen .moves) (omega arith);
         inside = λ h. rw (seen .moves) (seen .inside h);
@@ -238,7 +238,7 @@ module _ (m : Reader → Reading) (s : List ℕ) (st : State) (r : Reader) where
         bytes = refl;
         only = refl;
         by-rule = λ h. absurd (omega arith);
-        counts = λ q. rw (worth-none (m r) kind, cond-none (countsFor q r)) (sym (add-zero (countOf st q)));
+        counts = λ q. rw (counted-none (m r) kind, cond-none (countsFor q r)) (sym (add-zero (countOf st q)));
         sums = omega arith;
         inside = λ h. h;
         word = refl;

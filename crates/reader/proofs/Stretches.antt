@@ -23,9 +23,9 @@ use Rattle.reader.specs.Reading.{Reading, readingWith}
 use Rattle.reader.specs.State.{freshOf}
 use Rattle.reader.specs.Answer.{numberOf}
 use Rattle.reader.specs.Calls.{refusalWith}
-use Rattle.reader.specs.Pairs.{hitsBefore, hitsOf, pairsOf}
+use Rattle.reader.specs.Pairs.{hitsBefore, matchesOf, pairsOf}
 use Rattle.reader.specs.Column.{partFrom, boundOf, noTotals, addTotals, cellTotals, columnFrom, ColumnOutcome, columnOf}
-use Rattle.reader.specs.Ordinary.{Quick, Ordinary, Stretch, passing, digitsIn, ordinaryTotals}
+use Rattle.reader.specs.Ordinary.{Countable, Ordinary, Stretch, passing, digitsIn, ordinaryTotals}
 use Rattle.reader.proofs.Admission.{refusal-tells}
 use Rattle.reader.proofs.Places.{is-separator}
 use Rattle.reader.proofs.PairLaws.{at-most-one, pairs-below}
@@ -40,7 +40,7 @@ parts-join s start mid end h k =
     rw (joint, take-add (mid - start) (end - mid) (drop start s), drop-drop (mid - start) start s, there)
 
 -- what is quick in a buffer is quick in a part of it
-pub quick-part : (x : Syntax) (r : Reader) (s : List ℕ) (start end : ℕ) → start ≤ end → end ≤ length s → Quick x r s → Quick x r (partFrom s start end)
+pub quick-part : (x : Syntax) (r : Reader) (s : List ℕ) (start end : ℕ) → start ≤ end → end ≤ length s → Countable x r s → Countable x r (partFrom s start end)
 quick-part x r s start end h k q =
     record {
       counts = q .counts;
@@ -108,7 +108,7 @@ unfolding refusalWith
 refused-alike x s t f r clear = rw (le-leb 0 (length t) (omega arith)) (rw (le-leb 0 (length s) (omega arith)) at clear)
 
 -- what an ordinary cell of a buffer adds
-ordinary-cell : (x : Syntax) (r : Reader) (s : List ℕ) (f : Format) (start end : ℕ) → start ≤ end → end ≤ length s → Quick x r s
+ordinary-cell : (x : Syntax) (r : Reader) (s : List ℕ) (f : Format) (start end : ℕ) → start ≤ end → end ≤ length s → Countable x r s
     → Ordinary x (partFrom s start end) → refusalWith (x .flags) s (freshOf f) r ≡ 0
     → cellTotals (readingWith x) f r (partFrom s start end) ≡ ordinaryTotals x (partFrom s start end)
 unfolding readingWith
@@ -129,8 +129,8 @@ pub record Walked (x : Syntax) (s ends : List ℕ) (quick : Bool) (cell start k 
   pub ordered : start ≤ at
   pub inside : at ≤ length s
   pub plain : start < at → isSeparator (x .separator) (getD s (at - 1) 0) ≡ false
-  pub told :
-      (r : Reader) (f : Format) → (quick ≡ true → Quick x r s) → refusalWith (x .flags) s (freshOf f) r ≡ 0
+  pub report :
+      (r : Reader) (f : Format) → (quick ≡ true → Countable x r s) → refusalWith (x .flags) s (freshOf f) r ≡ 0
       → columnFrom (readingWith x) f r s start (drop cell ends)
       ≡ addTotals (ordinaryTotals x (partFrom s start at)) (columnFrom (readingWith x) f r s at (drop k ends))
 
@@ -143,7 +143,7 @@ module _ (x : Syntax) (s ends : List ℕ) (quick : Bool) (cell start : ℕ) wher
         ordered = omega arith;
         inside = l;
         plain = λ p. absurd (omega arith);
-        told = λ r f q clear. nothing-yet (columnFrom (readingWith x) f r s start (drop cell ends));
+        report = λ r f q clear. nothing-yet (columnFrom (readingWith x) f r s start (drop cell ends));
       } where
         nothing-yet : (c : Totals) → c ≡ addTotals (ordinaryTotals x (partFrom s start start)) c
         nothing-yet c =
@@ -161,7 +161,7 @@ module _ (x : Syntax) (s ends : List ℕ) (quick : Bool) (cell start : ℕ) wher
         ordered = omega (arith, here .ordered);
         inside = within;
         plain = plain-end ordered within;
-        told = told-on ordered within;
+        report = told-on ordered within;
       } where
         last-of-part : (ordered : at ≤ end) (within : end ≤ length s) → at < end → isSeparator (x .separator) (getD s (end - 1) 0) ≡ false
         last-of-part ordered within p =
@@ -182,7 +182,7 @@ module _ (x : Syntax) (s ends : List ℕ) (quick : Bool) (cell start : ℕ) wher
             let place : start + (length (partFrom s start at) - 1) ≡ at - 1 = omega (arith, here .ordered) in
             rw (part-byte s start at (here .ordered) (here .inside) (length (partFrom s start at) - 1) (omega arith), place) (here .plain (omega arith))
 
-        told-on : (ordered : at ≤ end) (within : end ≤ length s) (r : Reader) (f : Format) → (quick ≡ true → Quick x r s) → refusalWith (x .flags) s (freshOf f) r ≡ 0
+        told-on : (ordered : at ≤ end) (within : end ≤ length s) (r : Reader) (f : Format) → (quick ≡ true → Countable x r s) → refusalWith (x .flags) s (freshOf f) r ≡ 0
             → columnFrom (readingWith x) f r s start (drop cell ends)
             ≡ addTotals (ordinaryTotals x (partFrom s start end)) (columnFrom (readingWith x) f r s end (drop (k + 1) ends))
         told-on ordered within r f quick-so clear =
@@ -193,7 +193,7 @@ module _ (x : Syntax) (s ends : List ℕ) (quick : Bool) (cell start : ℕ) wher
             column-at (readingWith x) f r s ends k at more
             ∙ ap (λ (e : ℕ). addTotals (cellTotals (readingWith x) f r (partFrom s at e)) (columnFrom (readingWith x) f r s e (drop (k + 1) ends))) (sym bound)
             ∙ ap (λ (t : Totals). addTotals t rest) one in
-            here .told r f quick-so clear
+            here .report r f quick-so clear
             ∙ ap (addTotals (ordinaryTotals x (partFrom s start at))) split
             ∙ add-totals-assoc (ordinaryTotals x (partFrom s start at)) (ordinaryTotals x (partFrom s at end)) rest
             ∙ ap (λ (t : Totals). addTotals t rest)
@@ -201,7 +201,7 @@ module _ (x : Syntax) (s ends : List ℕ) (quick : Bool) (cell start : ℕ) wher
             ∙ ap (ordinaryTotals x) (sym (parts-join s start at end (here .ordered) ordered)))
 
   -- where the walk stops, the stretch is told
-  pub walk-ends : (r : Reader) → (quick ≡ true → Quick x r s) → (k at : ℕ) → Walked x s ends quick cell start k at
+  pub walk-ends : (r : Reader) → (quick ≡ true → Countable x r s) → (k at : ℕ) → Walked x s ends quick cell start k at
       → Stretch x r s ends cell start (record { cell = k; at = at })
   walk-ends r quick-so k at here =
       record {
@@ -209,7 +209,7 @@ module _ (x : Syntax) (s ends : List ℕ) (quick : Bool) (cell start : ℕ) wher
         cells = here .cells;
         ordered = here .ordered;
         inside = here .inside;
-        told = λ f clear. here .told r f quick-so clear;
+        report = λ f clear. here .report r f quick-so clear;
       }
 
 -- what a stretch adds is no more than its bytes
@@ -222,7 +222,7 @@ pub record Summed (x : Syntax) (f : Format) (r : Reader) (s ends : List ℕ) (su
   pub inside : at ≤ length s
   pub size : sums .taken + sums .passed ≤ at
   pub digits : sums .digits ≤ at
-  pub told : columnFrom (readingWith x) f r s 0 ends ≡ addTotals sums (columnFrom (readingWith x) f r s at (drop cell ends))
+  pub report : columnFrom (readingWith x) f r s 0 ends ≡ addTotals sums (columnFrom (readingWith x) f r s at (drop cell ends))
 
 module _ (x : Syntax) (f : Format) (r : Reader) (s ends : List ℕ) where
   pub sums-start : Summed x f r s ends noTotals 0 0
@@ -233,7 +233,7 @@ module _ (x : Syntax) (f : Format) (r : Reader) (s ends : List ℕ) where
         inside = omega arith;
         size = omega arith;
         digits = omega arith;
-        told = same-totals c (addTotals noTotals c) (omega arith) (omega arith) (omega arith);
+        report = same-totals c (addTotals noTotals c) (omega arith) (omega arith) (omega arith);
       }
 
   module _ (sums : Totals) (cell at : ℕ) (here : Summed x f r s ends sums cell at) where
@@ -248,9 +248,9 @@ module _ (x : Syntax) (f : Format) (r : Reader) (s ends : List ℕ) where
           inside = stretch .inside;
           size = omega (arith, here .size, size .0, long, stretch .ordered);
           digits = omega (arith, here .digits, size .1, long, stretch .ordered);
-          told =
-              here .told
-              ∙ ap (addTotals sums) (stretch .told f clear)
+          report =
+              here .report
+              ∙ ap (addTotals sums) (stretch .report f clear)
               ∙ add-totals-assoc sums (ordinaryTotals x (partFrom s at (to .at))) (columnFrom (readingWith x) f r s (to .at) (drop (to .cell) ends));
         }
 
@@ -269,8 +269,8 @@ module _ (x : Syntax) (f : Format) (r : Reader) (s ends : List ℕ) where
           inside = within;
           size = omega (arith, here .size);
           digits = omega (arith, here .digits);
-          told =
-              here .told
+          report =
+              here .report
               ∙ ap (addTotals sums)
               (column-at (readingWith x) f r s ends cell at more
               ∙ ap (λ (e : ℕ). addTotals (cellTotals (readingWith x) f r (partFrom s at e)) (columnFrom (readingWith x) f r s e (drop (cell + 1) ends))) (sym bound)
@@ -283,14 +283,14 @@ module _ (x : Syntax) (f : Format) (r : Reader) (s ends : List ℕ) where
     unfolding columnFrom
     sums-end out =
         let over : drop cell ends ≡ [] = drop-of-length-le ends out in
-        sym (here .told ∙ rw over (same-totals (addTotals sums noTotals) sums (omega arith) (omega arith) (omega arith)))
+        sym (here .report ∙ rw over (same-totals (addTotals sums noTotals) sums (omega arith) (omega arith) (omega arith)))
 
 -- the call's outcome: the sums, or its refusal
 module _ (m : Reading) (f : Format) (r : Reader) (s ends : List ℕ) where
   pub column-read : (t : Totals) → refusalWith (m .flags) s (freshOf f) r ≡ 0 → t ≡ columnFrom m f r s 0 ends
       → _≡_ {A = ColumnOutcome} (record { refusal = 0; totals = t }) (columnOf m f r s ends)
   unfolding columnOf
-  column-read t clear told = rw (clear, told)
+  column-read t clear report = rw (clear, report)
 
   pub column-refused : (e : Refusal) → numberOf e ≡ refusalWith (m .flags) s (freshOf f) r
       → _≡_ {A = ColumnOutcome} (record { refusal = numberOf e; totals = noTotals }) (columnOf m f r s ends)

@@ -10,7 +10,7 @@ use Rattle.reader.specs.declared.state.Refusal.the-variants.{CursorPastE
 use Rattle.reader.specs.declared.state.Admission.{Admission}
 use Rattle.reader.specs.declared.state.Admission.the-variants as admission
 use Rattle.reader.specs.declared.state.Reader.{Reader}
-use Rattle.reader.specs.declared.skip.Run.{Run}
+use Rattle.reader.specs.declared.skip.TakeSums.{TakeSums}
 use Rattle.reader.specs.declared.skip.Looked.{Looked}
 use Rattle.reader.specs.declared.skip.Looked.the-variants as looked
 use Rattle.reader.specs.declared.skip.Seen.{Seen}
@@ -66,8 +66,8 @@ LookFits s st (looked.End place passed) = Unit {0}
 LookFits s st (looked.Refused e) = Unit {0}
 
 -- what takes to the end come to from a state: the end, with the state at the run's place and count
-abbrev pub runOutcome : State → Reader → Run → Outcome
-runOutcome st r run =
+abbrev pub sumsOutcome : State → Reader → TakeSums → Outcome
+sumsOutcome st r run =
     record {
       refusal = 0;
       byte = none;
@@ -89,7 +89,7 @@ seenByte (seen.Refused e) = none
 
 abbrev pub outcomeOf : Answer → Outcome
 outcomeOf a =
-    record { refusal = seenNumber (a .told .seen); byte = seenByte (a .told .seen); taken = a .told .taken; passed = a .told .passed; state = a .state }
+    record { refusal = seenNumber (a .report .seen); byte = seenByte (a .report .seen); taken = a .report .taken; passed = a .report .passed; state = a .state }
 
 -- a conditional read's answer: the byte taken, declined, or a refusal
 abbrev pub readNumber : Read → ℕ
@@ -104,7 +104,7 @@ readByte (read.Refused e) = none
 
 abbrev pub readOutcomeOf : ReadAnswer → Outcome
 readOutcomeOf a =
-    record { refusal = readNumber (a .told .read); byte = readByte (a .told .read); taken = a .told .taken; passed = a .told .passed; state = a .state }
+    record { refusal = readNumber (a .report .read); byte = readByte (a .report .read); taken = a .report .taken; passed = a .report .passed; state = a .state }
 
 -- what `current_count` answers: the count shown, or a refusal
 pub record CountOutcome : Type 0 where
@@ -133,7 +133,7 @@ skipZeros (skipped.Refused e) = none
 
 abbrev pub skipOutcomeOf : SkipAnswer → SkipOutcome
 skipOutcomeOf a =
-    record { refusal = skipNumber (a .told .skipped); zeros = skipZeros (a .told .skipped); taken = a .told .taken; passed = a .told .passed; state = a .state }
+    record { refusal = skipNumber (a .report .skipped); zeros = skipZeros (a .report .skipped); taken = a .report .taken; passed = a .report .passed; state = a .state }
 
 -- a block take's outcome: how many bytes the block has; none where the reader answers none, and where it is refused
 pub record BlockOutcome : Type 0 where
@@ -155,4 +155,4 @@ blockBytes (block.Refused e) taken = none
 
 abbrev pub blockOutcomeOf : BlockAnswer → BlockOutcome
 blockOutcomeOf a =
-    record { refusal = blockNumber (a .told .block); block = blockBytes (a .told .block) (a .told .taken); taken = a .told .taken; passed = a .told .passed; state = a .state }
+    record { refusal = blockNumber (a .report .block); block = blockBytes (a .report .block) (a .report .taken); taken = a .report .taken; passed = a .report .passed; state = a .state }

@@ -11,7 +11,7 @@ use Rattle.reader.specs.declared.state.State.{State}
 use Rattle.reader.specs.Reading.{Reading, mayPass}
 use Rattle.reader.specs.State.{Sheet, sheetOf, freshOn, countOf}
 use Rattle.reader.specs.Answer.{Outcome, SkipOutcome}
-use Rattle.reader.specs.History.{Call, peekBy, takeBy, readIfBy, zeroSkipBy, blockBy, Answered, peekAnswered, takeAnswered, readAnswered, skipAnswered, blockAnswered, answerTo, numberIn, takenIn, passedIn, returned, shownIn, Run, runFrom, runOf, totalOf, Step, byteTaken, stepsOf, joined, historyCount, stepCount}
+use Rattle.reader.specs.History.{Call, peekBy, takeBy, readIfBy, zeroSkipBy, blockBy, Answered, peekAnswered, takeAnswered, readAnswered, skipAnswered, blockAnswered, answerTo, numberIn, takenIn, passedIn, returned, shownIn, Trace, traceFrom, traceOf, totalOf, Step, byteTaken, stepsOf, joined, historyCount, stepCount}
 
 -- A run of separators that a step passed is separators only. It began at the place whose number is how many bytes were joined
 -- before it: there the buffer has a separator and the reader's rule holds, first if its count of the history is 0 up to there,
@@ -92,53 +92,53 @@ Preceded m s st (readIfBy r wanted) = Unit {0}
 Preceded m s st (zeroSkipBy r) = numberIn (answerTo m s st (zeroSkipBy r)) ≡ 0
 Preceded m s st (blockBy r n) = ⊥
 
-abbrev pub peeked : (Sheet → Reader → Reading) → List ℕ → State → Call → Answered
-peeked m s st call = answerTo m s st (peekBy (readerOf call))
+abbrev pub peekBefore : (Sheet → Reader → Reading) → List ℕ → State → Call → Answered
+peekBefore m s st call = answerTo m s st (peekBy (readerOf call))
 
 -- What the call answers from the state that the peek returned, beside what it answers without the peek: the same byte or number of
 -- zeros, and the same state, so that the rest of the list goes on the same. The two passed counts add up to the one without.
 pub record PeekChangesNothing (m : Sheet → Reader → Reading) (s : List ℕ) (st : State) (call : Call) : Type 0 where
-  pub shown : shownIn (answerTo m s (returned (peeked m s st call)) call) ≡ shownIn (answerTo m s st call)
-  pub state : returned (answerTo m s (returned (peeked m s st call)) call) ≡ returned (answerTo m s st call)
+  pub shown : shownIn (answerTo m s (returned (peekBefore m s st call)) call) ≡ shownIn (answerTo m s st call)
+  pub state : returned (answerTo m s (returned (peekBefore m s st call)) call) ≡ returned (answerTo m s st call)
   pub rest :
       (calls : List Call) →
-      runOf m s (runFrom (returned (answerTo m s (returned (peeked m s st call)) call))) calls
-      ≡ runOf m s (runFrom (returned (answerTo m s st call))) calls
+      traceOf m s (traceFrom (returned (answerTo m s (returned (peekBefore m s st call)) call))) calls
+      ≡ traceOf m s (traceFrom (returned (answerTo m s st call))) calls
   pub passed :
-      passedIn (peeked m s st call) + passedIn (answerTo m s (returned (peeked m s st call)) call) ≡ passedIn (answerTo m s st call)
+      passedIn (peekBefore m s st call) + passedIn (answerTo m s (returned (peekBefore m s st call)) call) ≡ passedIn (answerTo m s st call)
 
 -- where a list of calls has come to, from a fresh cursor on the sheet
-abbrev pub runFresh : (Sheet → Reader → Reading) → List ℕ → Sheet → List Call → Run
-runFresh m s sheet calls = runOf m s (runFrom (freshOn sheet)) calls
+abbrev pub traceFresh : (Sheet → Reader → Reading) → List ℕ → Sheet → List Call → Trace
+traceFresh m s sheet calls = traceOf m s (traceFrom (freshOn sheet)) calls
 
 pub record ByteTally (m : Sheet → Reader → Reading) (s : List ℕ) (sheet : Sheet) (calls : List Call) : Type 0 where
   -- the separators passed and the bytes taken, joined in the order of the calls, are the bytes before the cursor
-  pub bytes : joined (m sheet) (stepsOf (runFresh m s sheet calls .history)) ≡ take (runFresh m s sheet calls .state .cursor) s
+  pub bytes : joined (m sheet) (stepsOf (traceFresh m s sheet calls .history)) ≡ take (traceFresh m s sheet calls .state .cursor) s
   -- which is within the buffer, so these are as many as its number says
-  pub inside : runFresh m s sheet calls .state .cursor ≤ length s
+  pub inside : traceFresh m s sheet calls .state .cursor ≤ length s
   -- cursor = taken + passed, summed from the counts the calls returned
   pub cursor :
-      runFresh m s sheet calls .state .cursor
-      ≡ totalOf takenIn (runFresh m s sheet calls .history) + totalOf passedIn (runFresh m s sheet calls .history)
+      traceFresh m s sheet calls .state .cursor
+      ≡ totalOf takenIn (traceFresh m s sheet calls .history) + totalOf passedIn (traceFresh m s sheet calls .history)
   -- each passed run is separators only and began where document 01 lets that reader pass
-  pub runs : RunsAllowed (m sheet) s (stepsOf (runFresh m s sheet calls .history))
+  pub runs : RunsAllowed (m sheet) s (stepsOf (traceFresh m s sheet calls .history))
   -- each of the digit counts equals document 01's count of the history for its reader
-  pub counts : (r : Reader) → countOf (runFresh m s sheet calls .state) r ≡ historyCount (m sheet) r (runFresh m s sheet calls .history)
+  pub counts : (r : Reader) → countOf (traceFresh m s sheet calls .state) r ≡ historyCount (m sheet) r (traceFresh m s sheet calls .history)
   -- which, after each call, is the count by which the runs are first or later
-  pub agree : CountsAgree (m sheet) (runFresh m s sheet calls .history)
+  pub agree : CountsAgree (m sheet) (traceFresh m s sheet calls .history)
   -- each zero skip that is not refused answers how many of its reads took a byte, a `0` each; its last read, and no other, took none
-  pub skips : SkipsTold (runFresh m s sheet calls .history)
+  pub skips : SkipsTold (traceFresh m s sheet calls .history)
   -- a peek put into the list just before a take, conditional read or unrefused zero skip by the same reader changes nothing
   pub peeks :
       (before : List Call) (call : Call) (after : List Call) →
       calls ≡ before ++ (call ∷ after) →
-      Preceded m s (runFresh m s sheet before .state) call →
-      PeekChangesNothing m s (runFresh m s sheet before .state) call
+      Preceded m s (traceFresh m s sheet before .state) call →
+      PeekChangesNothing m s (traceFresh m s sheet before .state) call
   -- nor does it change where the list comes to
   pub inserted :
       (before : List Call) (call : Call) (after : List Call) →
       calls ≡ before ++ (call ∷ after) →
-      Preceded m s (runFresh m s sheet before .state) call →
-      runFresh m s sheet (before ++ (peekBy (readerOf call) ∷ call ∷ after)) .state ≡ runFresh m s sheet calls .state
+      Preceded m s (traceFresh m s sheet before .state) call →
+      traceFresh m s sheet (before ++ (peekBy (readerOf call) ∷ call ∷ after)) .state ≡ traceFresh m s sheet calls .state
   -- every call returns the word unchanged, and what stands beside it on the sheet
-  pub word : WordKept sheet (runFresh m s sheet calls .history)
+  pub word : WordKept sheet (traceFresh m s sheet calls .history)

@@ -99,14 +99,14 @@ abbrev pub unflaggedCount : Reading → State → ℕ
 unflaggedCount m st = cond (eqb (m .separator) 0) (st .cursor) (countSum st)
 
 -- the special reader shows no count
-abbrev pub countedOnes : Reader → ℕ → ℕ
-countedOnes Integer n = n
-countedOnes Fraction n = n
-countedOnes Exponent n = n
-countedOnes Special n = 0
+abbrev pub ownCount : Reader → ℕ → ℕ
+ownCount Integer n = n
+ownCount Fraction n = n
+ownCount Exponent n = n
+ownCount Special n = 0
 
 unfoldable pub shownCount : Reading → State → Reader → ℕ
-shownCount m st r = cond (hasAnyFlag (m .flags)) (countOf st r) (countedOnes r (unflaggedCount m st))
+shownCount m st r = cond (hasAnyFlag (m .flags)) (countOf st r) (ownCount r (unflaggedCount m st))
 
 unfoldable pub currentCountOf : Reading → List ℕ → State → Reader → CountOutcome
 currentCountOf m s st r =

@@ -96,19 +96,19 @@ partIn (blockAnswered r o part) = part
 -- THE CALLS OF A LIST: each gets the state that the last one returned.
 
 -- where a list has come to: the state last returned, and the history, the latest answer first
-pub record Run : Type 0 where
+pub record Trace : Type 0 where
   pub state : State
   pub history : List Answered
 
-abbrev pub runFrom : State → Run
-runFrom st = record { state = st; history = [] }
+abbrev pub traceFrom : State → Trace
+traceFrom st = record { state = st; history = [] }
 
-abbrev pub withAnswer : Run → Answered → Run
+abbrev pub withAnswer : Trace → Answered → Trace
 withAnswer w a = record { state = returned a; history = a ∷ w .history }
 
-abbrev pub runOf : (Sheet → Reader → Reading) → List ℕ → Run → List Call → Run
-runOf m s w [] = w
-runOf m s w (call ∷ rest) = runOf m s (withAnswer w (answerTo m s (w .state) call)) rest
+abbrev pub traceOf : (Sheet → Reader → Reading) → List ℕ → Trace → List Call → Trace
+traceOf m s w [] = w
+traceOf m s w (call ∷ rest) = traceOf m s (withAnswer w (answerTo m s (w .state) call)) rest
 
 abbrev pub totalOf : (Answered → ℕ) → List Answered → ℕ
 totalOf count [] = 0
@@ -184,13 +184,13 @@ historyCount m r (a ∷ earlier) = historyCount m r earlier + addedTo m r a
 
 -- The same count up to a step, which may be a read in the midst of a zero skip: there the reads so far have raised it, by the bytes that
 -- they took.
-abbrev pub worth : Reading → Kind → List ℕ → ℕ
-worth m aPeek bytes = 0
-worth m aTake bytes = digitsTaken m bytes
-worth m aRead bytes = 0
-worth m aZeroRead bytes = length bytes
-worth m aBlock bytes = 0
+abbrev pub digitsCounted : Reading → Kind → List ℕ → ℕ
+digitsCounted m aPeek bytes = 0
+digitsCounted m aTake bytes = digitsTaken m bytes
+digitsCounted m aRead bytes = 0
+digitsCounted m aZeroRead bytes = length bytes
+digitsCounted m aBlock bytes = 0
 
 abbrev pub stepCount : (Reader → Reading) → Reader → List Step → ℕ
 stepCount m r [] = 0
-stepCount m r (e ∷ earlier) = stepCount m r earlier + cond (countsFor r (e .reader)) (worth (m (e .reader)) (e .kind) (e .bytes)) 0
+stepCount m r (e ∷ earlier) = stepCount m r earlier + cond (countsFor r (e .reader)) (digitsCounted (m (e .reader)) (e .kind) (e .bytes)) 0

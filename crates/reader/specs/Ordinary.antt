@@ -24,7 +24,7 @@ use Rattle.reader.specs.Column.{partFrom, addTotals, columnFrom}
 
 -- The reader counts digits, the separator is no digit, and where runs are passed the buffer has none: no two separators stand side by
 -- side.
-pub record Quick (x : Syntax) (r : Reader) (s : List ℕ) : Type 0 where
+pub record Countable (x : Syntax) (r : Reader) (s : List ℕ) : Type 0 where
   pub counts : (hasAnyFlag (x .flags) && isCounted r) ≡ true
   pub positive : 0 < x .separator
   pub apart : isDigit (x .separator) (x .radix) ≡ false
@@ -95,7 +95,7 @@ pub record Stretch (x : Syntax) (r : Reader) (s ends : List ℕ) (k start : ℕ)
   pub cells : to .cell ≤ length ends
   pub ordered : start ≤ to .at
   pub inside : to .at ≤ length s
-  pub told :
+  pub report :
       (f : Format) → refusalWith (x .flags) s (freshOf f) r ≡ 0
       → columnFrom (readingWith x) f r s start (drop k ends)
       ≡ addTotals (ordinaryTotals x (partFrom s start (to .at))) (columnFrom (readingWith x) f r s (to .at) (drop (to .cell) ends))

@@ -7,14 +7,14 @@ use Rattle.word.specs.Digit.{isDigit}
 use Rattle.reader.specs.declared.pairs.Pairs.{Pairs}
 
 -- a byte and the one behind it count: the first is the separator, or may be any, and the second is of a kind that counts
-abbrev pub hitsOf : Pairs → ℕ → ℕ → Bool
-hitsOf p b n =
+abbrev pub matchesOf : Pairs → ℕ → ℕ → Bool
+matchesOf p b n =
     (p .any || eqb b (p .separator))
     && cond (isDigit n (p .radix)) (p .digits) (cond (eqb n (p .separator)) (p .separators) (p .others))
 
 abbrev pub hitsBefore : Pairs → ℕ → List ℕ → Bool
 hitsBefore p b [] = false
-hitsBefore p b (n ∷ rest) = hitsOf p b n
+hitsBefore p b (n ∷ rest) = matchesOf p b n
 
 -- how many of a list's bytes count so with the byte behind them
 abbrev pub pairsOf : Pairs → List ℕ → ℕ

@@ -4,7 +4,7 @@
 use mathlib.Core.Bool.{Bool, true, false, cond, not, _&&_, _||_}
 use Rattle.reader.specs.declared.rule.Flags.{Flags}
 use Rattle.reader.specs.declared.rule.Neighbour.{Neighbour}
-use Rattle.reader.specs.declared.rule.Named.{Named}
+use Rattle.reader.specs.declared.rule.Wanted.{Wanted}
 
 -- "not" before a list of two or three: none of it holds
 abbrev pub neither : Bool → Bool → Bool
@@ -57,19 +57,19 @@ ruleOf f isFirst p n =
     (later (f .internal) (f .leading) (f .trailing) (f .consecutive) p n)
 
 -- which neighbours a cell names: no other byte is looked at to decide it
-abbrev pub both : Named
+abbrev pub both : Wanted
 both = record { previous = true; next = true }
 
-abbrev pub previousOnly : Named
+abbrev pub previousOnly : Wanted
 previousOnly = record { previous = true; next = false }
 
-abbrev pub nextOnly : Named
+abbrev pub nextOnly : Wanted
 nextOnly = record { previous = false; next = true }
 
-abbrev pub nothing : Named
+abbrev pub nothing : Wanted
 nothing = record { previous = false; next = false }
 
-abbrev pub firstNames : Bool → Bool → Bool → Bool → Named
+abbrev pub firstNames : Bool → Bool → Bool → Bool → Wanted
 firstNames true false false false = both
 firstNames false true false false = both
 firstNames false false true false = both
@@ -86,7 +86,7 @@ firstNames false true true true = both
 firstNames true true true true = nothing
 firstNames false false false c = nothing
 
-abbrev pub laterNames : Bool → Bool → Bool → Bool → Named
+abbrev pub laterNames : Bool → Bool → Bool → Bool → Wanted
 laterNames true false false false = nextOnly
 laterNames false true false false = nothing
 laterNames false false true false = nextOnly
@@ -103,7 +103,7 @@ laterNames false true true true = nextOnly
 laterNames true true true true = nothing
 laterNames false false false c = nothing
 
-unfoldable pub namesOf : Flags → Bool → Named
+unfoldable pub namesOf : Flags → Bool → Wanted
 namesOf f isFirst =
     cond isFirst
     (firstNames (f .internal) (f .leading) (f .trailing) (f .consecutive))

@@ -4,11 +4,11 @@ ghost use mathlib.Core.Path.{_≡_};
 ghost use Rattle.reader.specs.Answer.{outcomeOf, readOutcomeOf, skipOutcomeOf, blockOutcomeOf, countOutcomeOf};
 ghost use Rattle.reader.specs.Block.{BlockPart};
 ghost use Rattle.reader.specs.Bytes.{bytesOver, Rest, countBytes, peekBytes, nextBytes, nextAllBytes, readBytes, skipBytes, takeNBytes, wholeOutcome};
-use crate::iterator::ReadTold;
-use crate::iterator::SkipTold;
-use crate::skip::BlockTold;
+use crate::iterator::ReadReport;
+use crate::iterator::SkipReport;
+use crate::skip::BlockReport;
 use crate::skip::Count;
-use crate::skip::Told;
+use crate::skip::Report;
 use crate::state::Reader;
 use crate::state::State;
 use word::byte_set::ByteSet;
@@ -73,59 +73,59 @@ impl<'a> Bytes<'a> {
         crate::skip::take_n_part(self.slc, self.state, reader, n)
     }
 
-    pub fn peek(&mut self, reader: Reader) -> Told
-        ensures { λ t. ⌜ (outcomeOf (record { told = t; state = now (self .exit) .state }) ≡ peekBytes (now (self .entry)) reader) × (now (self .exit) .slc ≡ now (self .entry) .slc) ⌝ }
+    pub fn peek(&mut self, reader: Reader) -> Report
+        ensures { λ t. ⌜ (outcomeOf (record { report = t; state = now (self .exit) .state }) ≡ peekBytes (now (self .entry)) reader) × (now (self .exit) .slc ≡ now (self .entry) .slc) ⌝ }
     {
         let answer = crate::skip::peek(self.slc, self.state, reader);
         self.state = answer.state;
-        answer.told
+        answer.report
     }
 
-    pub fn next(&mut self, reader: Reader) -> Told
-        ensures { λ t. ⌜ (outcomeOf (record { told = t; state = now (self .exit) .state }) ≡ nextBytes (now (self .entry)) reader) × (now (self .exit) .slc ≡ now (self .entry) .slc) ⌝ }
+    pub fn next(&mut self, reader: Reader) -> Report
+        ensures { λ t. ⌜ (outcomeOf (record { report = t; state = now (self .exit) .state }) ≡ nextBytes (now (self .entry)) reader) × (now (self .exit) .slc ≡ now (self .entry) .slc) ⌝ }
     {
         let answer = crate::skip::next(self.slc, self.state, reader);
         self.state = answer.state;
-        answer.told
+        answer.report
     }
 
     // Takes to the end of the slice.
-    pub fn next_all(&mut self, reader: Reader) -> Told
-        ensures { λ t. ⌜ (outcomeOf (record { told = t; state = now (self .exit) .state }) ≡ nextAllBytes (now (self .entry)) reader) × (now (self .exit) .slc ≡ now (self .entry) .slc) ⌝ }
+    pub fn next_all(&mut self, reader: Reader) -> Report
+        ensures { λ t. ⌜ (outcomeOf (record { report = t; state = now (self .exit) .state }) ≡ nextAllBytes (now (self .entry)) reader) × (now (self .exit) .slc ≡ now (self .entry) .slc) ⌝ }
     {
         let answer = crate::skip::next_all(self.slc, self.state, reader);
         self.state = answer.state;
-        answer.told
+        answer.report
     }
 
-    pub fn skip_zeros(&mut self, reader: Reader) -> SkipTold
-        ensures { λ t. ⌜ (skipOutcomeOf (record { told = t; state = now (self .exit) .state }) ≡ skipBytes (now (self .entry)) reader) × (now (self .exit) .slc ≡ now (self .entry) .slc) ⌝ }
+    pub fn skip_zeros(&mut self, reader: Reader) -> SkipReport
+        ensures { λ t. ⌜ (skipOutcomeOf (record { report = t; state = now (self .exit) .state }) ≡ skipBytes (now (self .entry)) reader) × (now (self .exit) .slc ≡ now (self .entry) .slc) ⌝ }
     {
         let answer = crate::iterator::skip_zeros(self.slc, self.state, reader);
         self.state = answer.state;
-        answer.told
+        answer.report
     }
 
-    pub fn read_if(&mut self, reader: Reader, wanted: ByteSet) -> ReadTold
-        ensures { λ t. ⌜ (readOutcomeOf (record { told = t; state = now (self .exit) .state }) ≡ readBytes (now (self .entry)) reader wanted) × (now (self .exit) .slc ≡ now (self .entry) .slc) ⌝ }
+    pub fn read_if(&mut self, reader: Reader, wanted: ByteSet) -> ReadReport
+        ensures { λ t. ⌜ (readOutcomeOf (record { report = t; state = now (self .exit) .state }) ≡ readBytes (now (self .entry)) reader wanted) × (now (self .exit) .slc ≡ now (self .entry) .slc) ⌝ }
     {
         let answer = crate::iterator::read_if(self.slc, self.state, reader, wanted);
         self.state = answer.state;
-        answer.told
+        answer.report
     }
 
-    pub fn take_n(&mut self, reader: Reader, n: usize) -> BlockTold
-        ensures { λ t. ⌜ (blockOutcomeOf (record { told = t; state = now (self .exit) .state }) ≡ takeNBytes (now (self .entry)) reader n) × (now (self .exit) .slc ≡ now (self .entry) .slc) ⌝ }
+    pub fn take_n(&mut self, reader: Reader, n: usize) -> BlockReport
+        ensures { λ t. ⌜ (blockOutcomeOf (record { report = t; state = now (self .exit) .state }) ≡ takeNBytes (now (self .entry)) reader n) × (now (self .exit) .slc ≡ now (self .entry) .slc) ⌝ }
     {
         let answer = crate::skip::take_n(self.slc, self.state, reader, n);
         self.state = answer.state;
-        answer.told
+        answer.report
     }
 }
 
 // Takes to the end of a slice, from its start: for a caller with plain parameters, whose proof needs no walk.
-pub fn take_to_end(s: &[u8], format: Format, reader: Reader) -> Told
-    ensures { λ r. ⌜ outcomeOf (record { told = r; state = wholeOutcome (now (s .entry)) format reader .state }) ≡ wholeOutcome (now (s .entry)) format reader ⌝ }
+pub fn take_to_end(s: &[u8], format: Format, reader: Reader) -> Report
+    ensures { λ r. ⌜ outcomeOf (record { report = r; state = wholeOutcome (now (s .entry)) format reader .state }) ≡ wholeOutcome (now (s .entry)) format reader ⌝ }
 {
     let mut bytes = Bytes::new(s, format);
     bytes.next_all(reader)

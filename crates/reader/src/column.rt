@@ -6,9 +6,9 @@ ghost use Prim.Native.Nat.{_+_, _<_, _≤_, _^_, min, max};
 ghost use lib.ListN.{length, drop};
 ghost use Rattle.reader.specs.Reading.{readingWith, readingOf};
 ghost use Rattle.reader.specs.State.{freshOf};
-ghost use Rattle.reader.specs.Calls.{refusalWith, countedOnes};
+ghost use Rattle.reader.specs.Calls.{refusalWith, ownCount};
 ghost use Rattle.reader.specs.Column.{partFrom, addTotals, cellTotals, columnFrom, columnOf, columnOutcomeOf};
-ghost use Rattle.reader.specs.Ordinary.{Quick, Ordinary, Stretch, fillsOf, isServed, isQuick, passing as passingOf, doubles as doublesOf, beforeDigits, ordinaryTotals};
+ghost use Rattle.reader.specs.Ordinary.{Countable, Ordinary, Stretch, fillsOf, isServed, isQuick, passing as passingOf, doubles as doublesOf, beforeDigits, ordinaryTotals};
 use crate::pairs::Pairs;
 use crate::pairs::count_pairs;
 use crate::passing::Syntax;
@@ -128,7 +128,7 @@ fn digit_pairs(syntax: Syntax) -> Pairs
     }
 }
 
-// Whether the cells take up the buffer to its end. What a column answers does not hang on it, only how fast.
+// Whether the cells take up the buffer to its end. What a column answers does not depend on it, only how fast.
 fn fills(s: &[u8], ends: &[usize]) -> bool
     ensures { λ r. ⌜ r ≡ fillsOf (now (s .entry)) (now (ends .entry)) ⌝ }
 {
@@ -188,7 +188,7 @@ fn past_ordinary(
     cell: usize,
     start: usize,
 ) -> Reached
-    requires { ⌜ (quick ≡ true → Quick syntax reader (now s)) × (cell ≤ length (now ends)) × (start ≤ length (now s)) ⌝ }
+    requires { ⌜ (quick ≡ true → Countable syntax reader (now s)) × (cell ≤ length (now ends)) × (start ≤ length (now s)) ⌝ }
     ensures { λ to. ⌜ Stretch syntax reader (now (s .entry)) (now (ends .entry)) cell start to ⌝ }
 {
     let mut k = cell;
@@ -238,7 +238,7 @@ fn stretch_totals(s: &[u8], syntax: Syntax) -> Totals
 
 // The digits that a reader has counted in a run. The special reader counts nothing.
 fn own_count(reader: Reader, count: usize) -> usize
-    ensures { λ r. ⌜ r ≡ countedOnes reader count ⌝ }
+    ensures { λ r. ⌜ r ≡ ownCount reader count ⌝ }
 {
     match reader {
         Reader::Integer => count,
@@ -251,7 +251,7 @@ fn own_count(reader: Reader, count: usize) -> usize
 // What one cell adds, byte by byte.
 fn cell_totals(s: &[u8], format: Format, syntax: Syntax, reader: Reader) -> Totals
     requires { ⌜ refusalWith (syntax .flags) (now s) (freshOf format) reader ≡ 0 ⌝ }
-    ensures told { λ r. ⌜ r ≡ cellTotals (readingWith syntax) format reader (now (s .entry)) ⌝ }
+    ensures report { λ r. ⌜ r ≡ cellTotals (readingWith syntax) format reader (now (s .entry)) ⌝ }
     ensures fits { λ r. ⌜ (r .taken + r .passed ≤ length (now (s .entry))) × (r .digits ≤ length (now (s .entry))) ⌝ }
 {
     let run = take_run(s, State::fresh(format), syntax, reader, 0, 0);

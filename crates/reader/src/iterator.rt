@@ -31,14 +31,14 @@ pub enum Read {
 }
 
 // An answer without the state, as a peek's and a take's.
-pub struct ReadTold {
+pub struct ReadReport {
     pub read: Read,
     pub taken: usize,
     pub passed: usize,
 }
 
 pub struct ReadAnswer {
-    pub told: ReadTold,
+    pub report: ReadReport,
     pub state: State,
 }
 
@@ -48,29 +48,29 @@ pub enum Skipped {
     Refused(Refusal),
 }
 
-pub struct SkipTold {
+pub struct SkipReport {
     pub skipped: Skipped,
     pub taken: usize,
     pub passed: usize,
 }
 
 pub struct SkipAnswer {
-    pub told: SkipTold,
+    pub report: SkipReport,
     pub state: State,
 }
 
 fn read_answered(read: Read, taken: usize, passed: usize, state: State) -> ReadAnswer
-    ensures { λ r. ⌜ r ≡ record { told = record { read = read; taken = taken; passed = passed }; state = state } ⌝ }
+    ensures { λ r. ⌜ r ≡ record { report = record { read = read; taken = taken; passed = passed }; state = state } ⌝ }
 {
-    let told = ReadTold {
+    let report = ReadReport {
         read,
         taken,
         passed,
     };
-    ReadAnswer { told, state }
+    ReadAnswer { report, state }
 }
 
-// A conditional read with what the word says at hand.
+// A conditional read given the reader's syntax.
 fn read_in(s: &[u8], state: State, syntax: Syntax, reader: Reader, wanted: ByteSet) -> ReadAnswer
     ensures { λ r. ⌜ readOutcomeOf r ≡ readIfOf (readingWith syntax) (now (s .entry)) state reader (member wanted) ⌝ }
 {
@@ -104,14 +104,14 @@ pub fn read_if_value_cased(s: &[u8], state: State, reader: Reader, value: u8) ->
 }
 
 fn skip_answered(skipped: Skipped, taken: usize, passed: usize, state: State) -> SkipAnswer
-    ensures { λ r. ⌜ r ≡ record { told = record { skipped = skipped; taken = taken; passed = passed }; state = state } ⌝ }
+    ensures { λ r. ⌜ r ≡ record { report = record { skipped = skipped; taken = taken; passed = passed }; state = state } ⌝ }
 {
-    let told = SkipTold {
+    let report = SkipReport {
         skipped,
         taken,
         passed,
     };
-    SkipAnswer { told, state }
+    SkipAnswer { report, state }
 }
 
 // Where a cursor lands at a place. Most places have no separator, and there no call is made. (It calls `landing`: what the loop of
@@ -174,7 +174,7 @@ fn take_zeros(s: &[u8], state: State, syntax: Syntax, reader: Reader) -> SkipAns
     skip_answered(Skipped::Zeros(zeros), zeros, passed, end)
 }
 
-// A zero skip with what the word says at hand.
+// A zero skip given the reader's syntax.
 fn skip_zeros_in(s: &[u8], state: State, syntax: Syntax, reader: Reader) -> SkipAnswer
     ensures { λ r. ⌜ skipOutcomeOf r ≡ skipZerosOf (readingWith syntax) (now (s .entry)) state reader ⌝ }
 {

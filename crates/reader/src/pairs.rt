@@ -4,7 +4,7 @@ ghost use mathlib.Core.Path.{_≡_};
 ghost use mathlib.Core.Bool.{cond};
 ghost use Prim.Native.Nat.{_+_, _≤_, _<_};
 ghost use lib.ListN.{length};
-ghost use Rattle.reader.specs.Pairs.{hitsOf, pairsOf};
+ghost use Rattle.reader.specs.Pairs.{matchesOf, pairsOf};
 use word::digit::char_is_digit_by_range;
 
 // Which pairs count: those whose first byte is the separator, or all, by the kind of the second byte. A byte that is a digit and the
@@ -18,8 +18,8 @@ pub struct Pairs {
     pub others: bool,
 }
 
-fn hits(pairs: Pairs, b: u8, next: u8) -> bool
-    ensures { λ r. ⌜ r ≡ hitsOf pairs b next ⌝ }
+fn matches(pairs: Pairs, b: u8, next: u8) -> bool
+    ensures { λ r. ⌜ r ≡ matchesOf pairs b next ⌝ }
 {
     let digit = char_is_digit_by_range(next, pairs.radix);
     let separator = next == pairs.separator;
@@ -29,7 +29,7 @@ fn hits(pairs: Pairs, b: u8, next: u8) -> bool
             | (!digit & !separator & pairs.others))
 }
 
-fn raised(count: u8, hit: bool) -> u8
+fn add_if(count: u8, hit: bool) -> u8
     requires { ⌜ count < 255 ⌝ }
     ensures { λ r. ⌜ r ≡ cond hit 1 0 + count ⌝ }
 {
@@ -37,7 +37,7 @@ fn raised(count: u8, hit: bool) -> u8
 }
 
 // The pairs of a short slice.
-fn few_pairs(pairs: Pairs, s: &[u8]) -> u8
+fn count_short(pairs: Pairs, s: &[u8]) -> u8
     requires { ⌜ length (now s) ≤ 255 ⌝ }
     ensures { λ r. ⌜ (r ≡ pairsOf pairs (now (s .entry))) × (r ≤ length (now (s .entry))) ⌝ }
 {
@@ -47,7 +47,7 @@ fn few_pairs(pairs: Pairs, s: &[u8]) -> u8
         let before = i - 1;
         let b = s[before];
         let next = s[i];
-        count = raised(count, hits(pairs, b, next));
+        count = add_if(count, matches(pairs, b, next));
         i += 1;
     }
     count
@@ -67,11 +67,11 @@ pub(crate) fn count_pairs(pairs: Pairs, s: &[u8]) -> usize
     let mut from: usize = 0;
     while 224 < s.len() - from {
         let end = from + 225;
-        let few = few_pairs(pairs, &s[from..end]);
+        let few = count_short(pairs, &s[from..end]);
         count += wide(few);
         from += 224;
     }
     let end = s.len();
-    let few = few_pairs(pairs, &s[from..end]);
+    let few = count_short(pairs, &s[from..end]);
     count + wide(few)
 }

@@ -24,7 +24,7 @@ pub struct Neighbour {
 }
 
 // Which neighbours a rule looks at.
-pub struct Named {
+pub struct Wanted {
     pub previous: bool,
     pub next: bool,
 }
@@ -139,11 +139,11 @@ pub(crate) fn passes_before(word: u64, next: Neighbour) -> bool
 }
 
 // Which neighbours the rule of a cell looks at.
-pub(crate) fn names_of(flags: Flags, first: bool) -> Named
+pub(crate) fn names_of(flags: Flags, first: bool) -> Wanted
     ensures { λ r. ⌜ r ≡ namesOf flags first ⌝ }
 {
     let cell = cell_of(flags, first);
-    Named {
+    Wanted {
         previous: bit_at(NAMES_PREVIOUS, cell),
         next: bit_at(NAMES_NEXT, cell),
     }

@@ -9,7 +9,7 @@ ghost use Rattle.word.specs.Word.{digitSeparator, mantissaRadix};
 ghost use Rattle.reader.specs.Place.{isSeparator};
 ghost use Rattle.reader.specs.Reading.{readingWith, readingFor, hasAnyFlag};
 ghost use Rattle.reader.specs.State.{countOf, countSum};
-ghost use Rattle.reader.specs.Answer.{lookOutcome, LookFits, runOutcome, outcomeOf, countOutcomeOf, blockOutcomeOf};
+ghost use Rattle.reader.specs.Answer.{lookOutcome, LookFits, sumsOutcome, outcomeOf, countOutcomeOf, blockOutcomeOf};
 ghost use Rattle.reader.specs.Calls.{peekOf, nextOf, nextAllOf, takenFrom, shownCount, currentCountOf, peeked, refusalWith};
 ghost use Rattle.reader.specs.Block.{blockFrom, takeNOf, BlockPart};
 use crate::passing::Syntax;
@@ -40,14 +40,14 @@ pub enum Seen {
 }
 
 // An answer without the state: what was seen, how many bytes were taken, how many separators passed.
-pub struct Told {
+pub struct Report {
     pub seen: Seen,
     pub taken: usize,
     pub passed: usize,
 }
 
 pub struct Answer {
-    pub told: Told,
+    pub report: Report,
     pub state: State,
 }
 
@@ -58,14 +58,14 @@ pub enum Block {
     Refused(Refusal),
 }
 
-pub struct BlockTold {
+pub struct BlockReport {
     pub block: Block,
     pub taken: usize,
     pub passed: usize,
 }
 
 pub struct BlockAnswer {
-    pub told: BlockTold,
+    pub report: BlockReport,
     pub state: State,
 }
 
@@ -82,7 +82,7 @@ pub enum Looked {
 }
 
 // What takes to the end come to, as numbers: the place, the reader's count, and how many separators were passed.
-pub struct Run {
+pub struct TakeSums {
     pub at: usize,
     pub count: usize,
     pub passed: usize,
@@ -131,17 +131,17 @@ fn look_past(s: &[u8], state: State, syntax: Syntax, reader: Reader) -> Looked
 }
 
 fn answered(seen: Seen, taken: usize, passed: usize, state: State) -> Answer
-    ensures { λ r. ⌜ r ≡ record { told = record { seen = seen; taken = taken; passed = passed }; state = state } ⌝ }
+    ensures { λ r. ⌜ r ≡ record { report = record { seen = seen; taken = taken; passed = passed }; state = state } ⌝ }
 {
-    let told = Told {
+    let report = Report {
         seen,
         taken,
         passed,
     };
-    Answer { told, state }
+    Answer { report, state }
 }
 
-// A peek with what the word says at hand.
+// A peek given the reader's syntax.
 fn peek_in(s: &[u8], state: State, syntax: Syntax, reader: Reader) -> Answer
     ensures { λ r. ⌜ outcomeOf r ≡ peekOf (readingWith syntax) (now (s .entry)) state reader ⌝ }
 {
@@ -176,7 +176,7 @@ fn past_byte(state: State, syntax: Syntax, reader: Reader, b: u8) -> State
     next
 }
 
-// A take with what the word says at hand, for calls that take many bytes.
+// A take given the reader's syntax, for calls that take many bytes.
 fn next_in(s: &[u8], state: State, syntax: Syntax, reader: Reader) -> Answer
     ensures { λ r. ⌜ outcomeOf r ≡ nextOf (readingWith syntax) (now (s .entry)) state reader ⌝ }
 {
@@ -219,9 +219,9 @@ pub(crate) fn take_run(
     reader: Reader,
     start: usize,
     counted: usize,
-) -> Run
+) -> TakeSums
     requires { ⌜ (refusalWith (syntax .flags) (now s) state reader ≡ 0) × (start ≡ state .cursor) × (counted ≡ countOf state reader) ⌝ }
-    ensures outcome { λ r. ⌜ runOutcome state reader r ≡ nextAllOf (readingWith syntax) (now (s .entry)) state reader ⌝ }
+    ensures outcome { λ r. ⌜ sumsOutcome state reader r ≡ nextAllOf (readingWith syntax) (now (s .entry)) state reader ⌝ }
     ensures fits { λ r. ⌜ (start + r .passed ≤ r .at) × (r .at ≤ length (now (s .entry))) × (r .count ≤ r .at) ⌝ }
 {
     let separator = syntax.separator;
@@ -242,7 +242,7 @@ pub(crate) fn take_run(
         let over = place - at;
         if s.len() <= place {
             let total = passed + over;
-            return Run {
+            return TakeSums {
                 at: place,
                 count,
                 passed: total,
@@ -253,7 +253,7 @@ pub(crate) fn take_run(
         at = place + 1;
         passed += over;
     }
-    Run { at, count, passed }
+    TakeSums { at, count, passed }
 }
 
 // The same, with the state made at the end.
@@ -268,7 +268,7 @@ fn take_all(s: &[u8], state: State, syntax: Syntax, reader: Reader) -> Answer
     answered(Seen::End, taken, run.passed, end)
 }
 
-// Takes until there is no byte, with what the word says at hand.
+// Takes until there is no byte, given the reader's syntax.
 fn next_all_in(s: &[u8], state: State, syntax: Syntax, reader: Reader) -> Answer
     ensures { λ r. ⌜ outcomeOf r ≡ nextAllOf (readingWith syntax) (now (s .entry)) state reader ⌝ }
 {
@@ -328,14 +328,14 @@ pub fn current_count(s: &[u8], state: State, reader: Reader) -> Count
 }
 
 fn block_answered(block: Block, taken: usize, state: State) -> BlockAnswer
-    ensures { λ r. ⌜ r ≡ record { told = record { block = block; taken = taken; passed = 0 }; state = state } ⌝ }
+    ensures { λ r. ⌜ r ≡ record { report = record { block = block; taken = taken; passed = 0 }; state = state } ⌝ }
 {
-    let told = BlockTold {
+    let report = BlockReport {
         block,
         taken,
         passed: 0,
     };
-    BlockAnswer { told, state }
+    BlockAnswer { report, state }
 }
 
 // How many of n bytes there are from the cursor on. No sum of n and the cursor is formed, so any n will do.
@@ -376,8 +376,8 @@ pub fn take_n_part(s: &[u8], state: State, reader: Reader, n: usize) -> &[u8]
     ensures { λ r. ⌜ BlockPart (s .entry) state reader n r ⌝ }
 {
     let answer = take_n(s, state, reader, n);
-    let told = answer.told;
-    let block = told.block;
+    let report = answer.report;
+    let block = report.block;
     match block {
         Block::Taken => {
             let start = state.cursor;

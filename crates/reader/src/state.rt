@@ -57,7 +57,7 @@ pub enum Admission {
 }
 
 impl Refusal {
-    // The number by which the office's log knows the refusal.
+    // Its number in document 01.
     pub fn number(self) -> u32
         ensures { λ r. ⌜ r ≡ numberOf self ⌝ }
     {

@@ -36,7 +36,7 @@ pub record Answering (text₀ : List ℕ) (begun : Stage) (input : List ℕ) (en
 pub answering-starts : (text : List ℕ) (begun : Stage) (input : List ℕ) (ended : Bool) (out : List ℕ) → length text ≡ 4096
     → Answering text begun input ended out text out begun 0 0
 answering-starts text begun input ended out kept =
-    record { kept = kept; size = refl; answers = record { read = omega arith; written = omega arith; told = λ rest ends. refl } }
+    record { kept = kept; size = refl; answers = record { read = omega arith; written = omega arith; report = λ rest ends. refl } }
 
 module _ (text₀ : List ℕ) (begun : Stage) (input : List ℕ) (ended : Bool) (out₀ text out : List ℕ) (stage : Stage) (used end : ℕ)
     (here : Answering text₀ begun input ended out₀ text out stage used end) (inside : used < length input)
@@ -64,18 +64,18 @@ module _ (text₀ : List ℕ) (begun : Stage) (input : List ℕ) (ended : Bool) 
               record {
                 read = omega (arith, fits, inside);
                 written = wrote-inside (here .answers .written) (r .wrote);
-                told = λ rest ends.
-                    here .answers .told rest ends
+                report = λ rest ends.
+                    here .answers .report rest ends
                     ∙ ap (λ (l : List ℕ). take end out ++ l) (turn input used inside (runIn text stage) rest (ends-here rest ends))
-                    ∙ rw (ek, r' .wrote .told, r' .goes-on, append-assoc);
+                    ∙ rw (ek, r' .wrote .report, r' .goes-on, append-assoc);
               };
         }
 
 -- what a record that is due has
-module _ (stage : Stage) (room : ℕ) (ended : Bool) (size there : ℕ) (is : Bool) (told : is ≡ isDue stage room ended size there) (holds : is ≡ true)
+module _ (stage : Stage) (room : ℕ) (ended : Bool) (size there : ℕ) (is : Bool) (report : is ≡ isDue stage room ended size there) (holds : is ≡ true)
   where
     due : isDue stage room ended size there ≡ true
-    due = sym told ∙ holds
+    due = sym report ∙ holds
 
     pub due-room : 86 ≤ room
     unfolding isDue
@@ -102,20 +102,20 @@ pub not-due : (input : List ℕ) (used : ℕ) (stage : Stage) (room : ℕ) (ende
     → is ≡ isDue stage room ended size there → is ≡ false → size ≡ bodyLength (kindOf (getD input used 0))
     → there ≡ length (take (length input - (used + 1)) (drop (used + 1) input))
     → nextIsDue stage room ended (drop used input) ≡ false
-not-due input used stage room ended size there is inside told left e f =
-    let here : isDue stage room ended (bodyLength (kindOf (getD input used 0))) (length (drop (used + 1) input)) ≡ false = rw (e, f, to-the-end input (used + 1)) at (sym told ∙ left) in
+not-due input used stage room ended size there is inside report left e f =
+    let here : isDue stage room ended (bodyLength (kindOf (getD input used 0))) (length (drop (used + 1) input)) ≡ false = rw (e, f, to-the-end input (used + 1)) at (sym report ∙ left) in
     rw (drop-cons input used 0 inside) (rw (add-one used) at here)
 
 -- the record that the code asks for is the definition's
 pub asked-as : (rest : List ℕ) (n : ℕ) (k : Kind) (asked : Record) → k ≡ kindOf n
     → asked ≡ cond (ltb (length rest) (bodyLength k)) record'.CutShort (wholeRecord k rest) → asked ≡ recordAt n rest
 unfolding recordAt
-asked-as rest n k asked kind told = rw kind at told
+asked-as rest n k asked kind report = rw kind at report
 
 -- how many bytes of its body are there
 pub least-as : (input : List ℕ) (from least size size' : ℕ) → size ≡ size'
     → least ≡ min (length (take (length input - from) (drop from input))) size → least ≡ min (length (drop from input)) size'
-least-as input from least size size' same told = rw (to-the-end input from, same) at told
+least-as input from least size size' same report = rw (to-the-end input from, same) at report
 
 -- nothing answers what stands behind a stop
 pub stopped-prints-nothing : (input : List ℕ) (skipped : ℕ) → outputFrom input skipped stopped ≡ []
@@ -150,7 +150,7 @@ answered-whole text begun input text' out p fresh here far room = go (ltb (p .us
   rest = drop (p .used) input ++ []
 
   nothing-left : outputFrom rest 0 (runIn text' (p .stage)) ≡ [] → take (p .end) out ≡ outputFrom input 0 (gathering [])
-  nothing-left e = sym (rw (append-nil input, fresh, e, append-nil (take (p .end) out)) at (here .told [] (λ e. refl)))
+  nothing-left e = sym (rw (append-nil input, fresh, e, append-nil (take (p .end) out)) at (here .report [] (λ e. refl)))
 
   go : (b : Bool) → ltb (p .used) (length input) ≡ b → take (p .end) out ≡ outputFrom input 0 (gathering [])
   go false e = nothing-left (none-after input (p .used) (runIn text' (p .stage)) (omega (arith, here .read, ltb-false (p .used) (length input) e)))

@@ -1,4 +1,4 @@
--- An input that arrives in parts: what a whole record says does not hang on what follows it. Assumes nothing.
+-- An input that arrives in parts: what a whole record says does not depend on what follows it. Assumes nothing.
 use mathlib.Core.Path.{_≡_, refl, _∙_, ap, sym}
 use mathlib.Core.Bool.{Bool, true, false}
 use mathlib.Core.List.{List, [], _∷_, _++_, append-nil}

@@ -54,7 +54,7 @@ call-digit (call.Block n) = omega arith
 -- the part of a buffer from 0 to k has k - 0 bytes
 module _ (buffer : List ℕ) (k n : ℕ) (st : State) (r : Reader) (asked : Call) (reply : Reply)
     (same : take k buffer ≡ take n buffer)
-    (told : reply ≡ replyOf (answerTo readingOn (take (k - 0) buffer) st (callBy asked r)))
+    (report : reply ≡ replyOf (answerTo readingOn (take (k - 0) buffer) st (callBy asked r)))
   where
     pub call-responds : {out after : List ℕ} {at end kind : ℕ} {answer : Response'} → kind ≡ callNumber asked
         → Wrote out at (replyLine kind reply) after end → answer ≡ record { stage = stage.Opened n (reply .state); end = end }
@@ -62,5 +62,5 @@ module _ (buffer : List ℕ) (k n : ℕ) (st : State) (r : Reader) (asked : Call
     unfolding callResponse
     call-responds e w answered =
         let whole-part : k - 0 ≡ k = omega arith in
-        let reply-told : reply ≡ replyOf (answerTo readingOn (take n buffer) st (callBy asked r)) = rw (whole-part, same) at told in
+        let reply-told : reply ≡ replyOf (answerTo readingOn (take n buffer) st (callBy asked r)) = rw (whole-part, same) at report in
         responds answered (wrote-as w (rw (e, reply-told)) refl) (rw reply-told)

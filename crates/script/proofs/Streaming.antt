@@ -147,7 +147,7 @@ turned text buffer begun filled ended text' buffer' out p kept next inside answe
     record {
       kept = omega (arith, inside, count, size);
       written = a .written;
-      told = λ rest ends. rw left (a .told rest ends);
+      report = λ rest ends. rw left (a .report rest ends);
       leads = rw (left, chosen) (leads-as (p .stage) (length out - p .end) ended (drop (p .used) (take filled buffer)) text' due);
     }
 
@@ -175,10 +175,10 @@ came-some (suc n) e = omega arith
 part-length : (l : List ℕ) (k : ℕ) → length (take (length l - k) (drop k l)) ≡ length l - k
 part-length l k = simp (length-take, length-drop) (omega arith)
 
-pub reads-as : (kept : ℕ) (buffer part : List ℕ) (got : ℤ) (came : ℕ) (told : Arrival) → kept ≤ length buffer
+pub reads-as : (kept : ℕ) (buffer part : List ℕ) (got : ℤ) (came : ℕ) (report : Arrival) → kept ≤ length buffer
     → came ≡ clamped got (length (take (length (putMid kept (length buffer - kept) buffer part) - kept) (drop kept (putMid kept (length buffer - kept) buffer part))))
-    → told ≡ arrivalOf got kept came → Reads kept buffer (putMid kept (length buffer - kept) buffer part) told
-reads-as kept buffer part got came told inside count e =
+    → report ≡ arrivalOf got kept came → Reads kept buffer (putMid kept (length buffer - kept) buffer part) report
+reads-as kept buffer part got came report inside count e =
     record {
       same = take-put kept (length buffer - kept) buffer part inside;
       got = got;
@@ -204,9 +204,9 @@ came-behind kept filled buffer (pos k) e = go (clamped (pos k) (length buffer - 
       (omega (arith, some, same), λ inside. omega (arith, inside, fits, same))
 
 -- how a run goes on behind a write that failed, and behind a turn by what it says is to be done
-follows-by : (n m : Next) (turn : Turn) (ended : Bool) (buffer buffer' : List ℕ) (told : Status) → m ≡ n → FollowsBy n turn ended buffer buffer' told
-    → FollowsBy m turn ended buffer buffer' told
-follows-by n m turn ended buffer buffer' told e h = rw e h
+follows-by : (n m : Next) (turn : Turn) (ended : Bool) (buffer buffer' : List ℕ) (report : Status) → m ≡ n → FollowsBy n turn ended buffer buffer' report
+    → FollowsBy m turn ended buffer buffer' report
+follows-by n m turn ended buffer buffer' report e h = rw e h
 
 module _ (done : Bool) (turn : Turn) (ended : Bool) (buffer : List ℕ) where
   pub follows-failed : done ≡ false → Follows done turn ended buffer buffer status.CannotWrite
@@ -218,6 +218,6 @@ module _ (done : Bool) (turn : Turn) (ended : Bool) (buffer : List ℕ) where
   pub follows-again : done ≡ true → turn .next ≡ next.Again → Follows done turn ended buffer buffer (afterNoRead turn ended)
   follows-again e n = rw e (follows-by next.Again (turn .next) turn ended buffer buffer (afterNoRead turn ended) n (refl, refl))
 
-  pub follows-read : (buffer' : List ℕ) (came : Arrival) (told : Status) → done ≡ true → turn .next ≡ next.Read → Reads (turn .kept) buffer buffer' came → told ≡ afterRead turn came
-      → Follows done turn ended buffer buffer' told
-  follows-read buffer' came told e n reads tells = rw e (follows-by next.Read (turn .next) turn ended buffer buffer' told n (record { came = came; reads = reads; tells = tells }))
+  pub follows-read : (buffer' : List ℕ) (came : Arrival) (report : Status) → done ≡ true → turn .next ≡ next.Read → Reads (turn .kept) buffer buffer' came → report ≡ afterRead turn came
+      → Follows done turn ended buffer buffer' report
+  follows-read buffer' came report e n reads tells = rw e (follows-by next.Read (turn .next) turn ended buffer buffer' report n (record { came = came; reads = reads; tells = tells }))

@@ -20,4 +20,4 @@ longestLine = 86
 pub record Wrote (before : List ℕ) (at : ℕ) (bytes : List ℕ) (after : List ℕ) (end : ℕ) : Type 0 where
   pub size : length after ≡ length before
   pub place : end ≡ at + length bytes
-  pub told : take end after ≡ take at before ++ bytes
+  pub report : take end after ≡ take at before ++ bytes

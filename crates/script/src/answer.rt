@@ -49,7 +49,7 @@ fn answer_record(
 ) -> Response
     requires { ⌜ (length (now text) ≡ mostText) × (at + longestLine ≤ length (now out)) ⌝ }
     ensures kept { λ r. ⌜ length (now (text .exit)) ≡ mostText ⌝ }
-    ensures told { λ r. ⌜ Responds (responseAt (runIn (now (text .entry)) stage) kind (now (rest .entry))) (now (text .exit)) (now (out .entry)) at (now (out .exit)) r ⌝ }
+    ensures report { λ r. ⌜ Responds (responseAt (runIn (now (text .entry)) stage) kind (now (rest .entry))) (now (text .exit)) (now (out .entry)) at (now (out .exit)) r ⌝ }
 {
     let asked = record_behind(kind_of(kind), rest);
     respond(text, stage, asked, out, at)
@@ -99,7 +99,7 @@ pub(crate) fn answer(
     requires { ⌜ length (now text) ≡ mostText ⌝ }
     ensures kept { λ r. ⌜ (length (now (text .exit)) ≡ mostText) × (length (now (out .exit)) ≡ length (now (out .entry))) ⌝ }
     ensures far { λ r. ⌜ GoesAsFar (now (input .entry)) ended (length (now (out .exit))) r ⌝ }
-    ensures told { λ r. ⌜ Answers (now (text .entry)) begun (now (input .entry)) ended (now (text .exit)) (now (out .exit)) r ⌝ }
+    ensures report { λ r. ⌜ Answers (now (text .entry)) begun (now (input .entry)) ended (now (text .exit)) (now (out .exit)) r ⌝ }
 {
     let mut stage = begun;
     let mut used = 0;

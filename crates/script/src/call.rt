@@ -90,36 +90,36 @@ fn replied(shown: Shown, taken: usize, passed: usize, state: State) -> Reply
 fn seen_reply(a: Answer) -> Reply
     ensures { λ r. ⌜ r ≡ outcomeReply (outcomeOf a) ⌝ }
 {
-    let told = a.told;
-    let seen = told.seen;
-    replied(seen_shown(seen), told.taken, told.passed, a.state)
+    let report = a.report;
+    let seen = report.seen;
+    replied(seen_shown(seen), report.taken, report.passed, a.state)
 }
 
 fn read_reply(a: ReadAnswer) -> Reply
     ensures { λ r. ⌜ r ≡ outcomeReply (readOutcomeOf a) ⌝ }
 {
-    let told = a.told;
-    let read = told.read;
-    replied(read_shown(read), told.taken, told.passed, a.state)
+    let report = a.report;
+    let read = report.read;
+    replied(read_shown(read), report.taken, report.passed, a.state)
 }
 
 fn skip_reply(a: SkipAnswer) -> Reply
     ensures { λ r. ⌜ r ≡ skipReply (skipOutcomeOf a) ⌝ }
 {
-    let told = a.told;
-    let skipped = told.skipped;
-    replied(skip_shown(skipped), told.taken, told.passed, a.state)
+    let report = a.report;
+    let skipped = report.skipped;
+    replied(skip_shown(skipped), report.taken, report.passed, a.state)
 }
 
 fn block_reply(a: BlockAnswer) -> Reply
     ensures { λ r. ⌜ r ≡ blockReply (blockOutcomeOf a) ⌝ }
 {
-    let told = a.told;
-    let block = told.block;
+    let report = a.report;
+    let block = report.block;
     replied(
-        block_shown(block, told.taken),
-        told.taken,
-        told.passed,
+        block_shown(block, report.taken),
+        report.taken,
+        report.passed,
         a.state,
     )
 }

@@ -11,7 +11,7 @@ pub enum Refusal {
 }
 
 impl Refusal {
-    // The number by which the office's log knows it.
+    // Its number in document 01.
     pub fn number(self) -> u32
         ensures { λ r. ⌜ r ≡ refusalNumber self ⌝ }
     {

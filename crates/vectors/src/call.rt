@@ -121,37 +121,37 @@ fn first_of_block(block: Block, taken: usize) -> u64
 fn pack(a: Answer) -> u64
     ensures { λ r. ⌜ r ≡ packedOutcome (outcomeOf a) ⌝ }
 {
-    let told = a.told;
-    let seen = told.seen;
-    packed_state(first_of_seen(seen), a.state, told.taken, told.passed)
+    let report = a.report;
+    let seen = report.seen;
+    packed_state(first_of_seen(seen), a.state, report.taken, report.passed)
 }
 
 fn pack_read(a: ReadAnswer) -> u64
     ensures { λ r. ⌜ r ≡ packedOutcome (readOutcomeOf a) ⌝ }
 {
-    let told = a.told;
-    let read = told.read;
-    packed_state(first_of_read(read), a.state, told.taken, told.passed)
+    let report = a.report;
+    let read = report.read;
+    packed_state(first_of_read(read), a.state, report.taken, report.passed)
 }
 
 fn pack_skip(a: SkipAnswer) -> u64
     ensures { λ r. ⌜ r ≡ packedSkip (skipOutcomeOf a) ⌝ }
 {
-    let told = a.told;
-    let skipped = told.skipped;
-    packed_state(first_of_skip(skipped), a.state, told.taken, told.passed)
+    let report = a.report;
+    let skipped = report.skipped;
+    packed_state(first_of_skip(skipped), a.state, report.taken, report.passed)
 }
 
 fn pack_block(a: BlockAnswer) -> u64
     ensures { λ r. ⌜ r ≡ packedBlock (blockOutcomeOf a) ⌝ }
 {
-    let told = a.told;
-    let block = told.block;
+    let report = a.report;
+    let block = report.block;
     packed_state(
-        first_of_block(block, told.taken),
+        first_of_block(block, report.taken),
         a.state,
-        told.taken,
-        told.passed,
+        report.taken,
+        report.passed,
     )
 }
 

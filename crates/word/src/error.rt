@@ -29,7 +29,7 @@ impl Error {
         self.number() == 0
     }
 
-    // The number by which the office's log knows the answer.
+    // Its number in document 01.
     pub fn number(self) -> u32
         ensures { λ r. ⌜ r ≡ numberOf self ⌝ }
     {

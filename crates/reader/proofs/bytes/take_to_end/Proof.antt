@@ -3,7 +3,7 @@
 use Rattle.reader.proofs.Walk.EL
 use Rattle.reader.proofs.Walk.LL
 use Rattle.reader.proofs.Walk.{_≡_, _∙_, refl, ap, subst, ℕ, List, [], _∷_, length, URA, fullShare, PosShare·left, PosShare·right, named, erased, Val, vptr, SProp, ent, sep, emp, via, fst∗, snd∗, exE, id⊢, GName, Lft, Share, Fml, ftrue, flft, fat, Memory, Routine, Heap, Calls, Loops, WpFn, Tables, Atoms, sem, Fun, fact, givenOf, tables, tablesOf, Given, ‵, raw, _⊛_, ⋆, some, later, _$_, _∵_, !, qed, by, move, keep, drop, use1, use2, use3, split, join, pick, learn, rewrite, fsplit, fjoin, suffices, frame, await, done, agg, look, init, forget, stop, from, load, addr, of-opd, and-then, no-more, assigns, land, returns, enter, alloc1, alloc0, params1, pass1, pass0, free1, free0, FmC, fmOf, WpFn-mono, owns, Is, shows, u8, RefT, NamedLft, plain, sliceVal, ShrSlice, slice-vals, shr-slice-tells, shr-slice-lawful, shr-slice-copy, owned, peeks, heard, nothing, Contract, Triple, calls-at, ensured, lasts, Vals, onEntry, Meets, tripleOf, entered, cited, says, Stays, stay-none, stay-none-slice, walkOf, goes-none, goes-none-slice, Walks, ends-at, walked, walk-meets, yes}
-use Rattle.reader.specs.declared.skip.Told.{Told}
+use Rattle.reader.specs.declared.skip.Report.{Report}
 use Rattle.reader.specs.declared.state.State.{State}
 use Rattle.reader.specs.Answer.{Outcome, outcomeOf}
 use Rattle.reader.specs.Bytes.{bytesOver, nextAllBytes, wholeOutcome}
@@ -18,8 +18,8 @@ use Rattle.word.proofs.format_flags.Format as F
 use Rattle.word.proofs.format_flags.Format.Laws as F′
 use Rattle.reader.proofs.state.Reader as R
 use Rattle.reader.proofs.state.Reader.Laws as R′
-use Rattle.reader.proofs.skip.Told as To
-use Rattle.reader.proofs.skip.Told.Laws as To′
+use Rattle.reader.proofs.skip.Report as To
+use Rattle.reader.proofs.skip.Report.Laws as To′
 use Rattle.reader.proofs.Spelt.{is-at, val-at}
 use Rattle.reader.proofs.Local as local
 use Rattle.reader.proofs.Lending.{Next, B, to, Loan, asks, Said, Given-back, gives}
@@ -36,8 +36,8 @@ use Rattle.reader.proofs.bytes.take_to_end.Statement as stated
 use Rattle.reader.proofs.bytes.take_to_end.Code as code
 
 -- what is told of an outcome stays so with the outcome's own state
-told-whole : (t : Told) (st : State) (o : Outcome) → outcomeOf (record { told = t; state = st }) ≡ o → outcomeOf (record { told = t; state = o .state }) ≡ o
-told-whole t st o e = subst (λ (z : State). outcomeOf (record { told = t; state = z }) ≡ o) (ap (λ (x : Outcome). x .state) e) e
+told-whole : (t : Report) (st : State) (o : Outcome) → outcomeOf (record { report = t; state = st }) ≡ o → outcomeOf (record { report = t; state = o .state }) ≡ o
+told-whole t st o e = subst (λ (z : State). outcomeOf (record { report = t; state = z }) ≡ o) (ap (λ (x : Outcome). x .state) e) e
 
 -- a fresh state is read as its word is
 fresh-read : (s : RefT (List ℕ)) (w : Format) (r : Reader) → nextAllBytes (bytesOver s w) r ≡ wholeOutcome (s .now) w r
@@ -89,7 +89,7 @@ module _ {M : Type 1} (𝓤 : URA M) (H : Heap 𝓤) (A : Atoms 𝓤) (W : Given
   new-said : (d : Bytes) → ent 𝓤 (ensured 𝓤 H A new.ended (new.clauses 𝓤 H A mem run) (κ, tt) (s, (w, tt)) tt d) (fact 𝓤 (d ≡ d₀))
   new-said d = exE 𝓤 _ (λ ws. snd∗ 𝓤 (sem 𝓤 H A (lasts new.ended (κ, tt) (s, (w, tt)) ws)) (fact 𝓤 (d ≡ d₀)))
 
-  exits : (t : Told) (d′ : Bytes) → Is To.the-row t (LL.vals To.the-type To′.the-laws t) → Said 𝓤 H A W mem run κ q 0 d₀ r t d′ → ent 𝓤 (⋆ 𝓤 H A (‵ (flft κ q) ∷ ‵ Own ∷ [])) (Post (LL.val To.the-type To′.the-laws t))
+  exits : (t : Report) (d′ : Bytes) → Is To.the-row t (LL.vals To.the-type To′.the-laws t) → Said 𝓤 H A W mem run κ q 0 d₀ r t d′ → ent 𝓤 (⋆ 𝓤 H A (‵ (flft κ q) ∷ ‵ Own ∷ [])) (Post (LL.val To.the-type To′.the-laws t))
   exits t d′ is said =
       qed W (‵ (flft κ q) ∷ ‵ Own ∷ []) ∵
       suffices ! _ (ends-at 𝓤 H A f.ended stayed (f.clauses 𝓤 H A mem run) W (((κ, tt), (q, tt), tt, (s, (w, (r, tt))), at), tt) (LL.val To.the-type To′.the-laws t) t (tt, (tt, (tt, tt))) (tt, (tt, (tt, tt)))) $ says ! (told-whole t (d′ .state) (wholeOutcome (s .now) w r) (said .0 ∙ fresh-read s w r)) $

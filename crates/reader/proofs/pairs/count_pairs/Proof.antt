@@ -26,17 +26,17 @@ sub-loop c = search needs
 add-end : tie.Need-add-end Inv-loop μ-loop
 add-end c = search needs
 
-sub-few-pairs : tie.Need-sub-few-pairs Inv-loop μ-loop
-sub-few-pairs c = search needs
+sub-count-short : tie.Need-sub-count-short Inv-loop μ-loop
+sub-count-short c = search needs
 
-part-few-pairs-start : tie.Need-part-few-pairs-start Inv-loop μ-loop
-part-few-pairs-start c = search needs
+part-count-short-start : tie.Need-part-count-short-start Inv-loop μ-loop
+part-count-short-start c = search needs
 
-part-few-pairs-end : tie.Need-part-few-pairs-end Inv-loop μ-loop
-part-few-pairs-end c = search needs
+part-count-short-end : tie.Need-part-count-short-end Inv-loop μ-loop
+part-count-short-end c = search needs
 
-few-pairs-requires : tie.Need-few-pairs-requires Inv-loop μ-loop
-few-pairs-requires c κs = simp (length-take, length-drop) (omega arith)
+count-short-requires : tie.Need-count-short-requires Inv-loop μ-loop
+count-short-requires c κs = simp (length-take, length-drop) (omega arith)
 
 wide-requires : tie.Need-wide-requires Inv-loop μ-loop
 wide-requires c κs = search needs
@@ -45,7 +45,7 @@ add-count : tie.Need-add-count Inv-loop μ-loop
 add-count c =
     let l = c .before .before .before .before in
     let a = l .before .before .args in
-    let counted = c .wide .ensures ∙ c .before .few-pairs .ensures .0 in
+    let counted = c .wide .ensures ∙ c .before .count-short .ensures .0 in
     omega (arith, part-most (a .pairs) (a .s .now) (l .loop .from) (c .wide .result) counted (omega arith))
 
 add-from : tie.Need-add-from Inv-loop μ-loop
@@ -58,34 +58,34 @@ loop-again : tie.Need-loop-again Inv-loop μ-loop
 loop-again c =
     let l = c .before .before .before .before in
     let a = l .before .before .args in
-    let counted = c .wide .ensures ∙ c .before .few-pairs .ensures .0 in
+    let counted = c .wide .ensures ∙ c .before .count-short .ensures .0 in
     let most = part-most (a .pairs) (a .s .now) (l .loop .from) (c .wide .result) counted (omega arith) in
     (search needs, omega (arith, most), part-turn (a .pairs) (a .s .now) (l .loop .from) (c .wide .result) counted (l .loop .count) (l .loop .inv .2))
 
-sub-few-pairs-2 : tie.Need-sub-few-pairs-2 Inv-loop μ-loop
-sub-few-pairs-2 c = search needs
+sub-count-short-2 : tie.Need-sub-count-short-2 Inv-loop μ-loop
+sub-count-short-2 c = search needs
 
-part-few-pairs-start-2 : tie.Need-part-few-pairs-start-2 Inv-loop μ-loop
-part-few-pairs-start-2 c = search needs
+part-count-short-start-2 : tie.Need-part-count-short-start-2 Inv-loop μ-loop
+part-count-short-start-2 c = search needs
 
-part-few-pairs-end-2 : tie.Need-part-few-pairs-end-2 Inv-loop μ-loop
-part-few-pairs-end-2 c = search needs
+part-count-short-end-2 : tie.Need-part-count-short-end-2 Inv-loop μ-loop
+part-count-short-end-2 c = search needs
 
-few-pairs-requires-2 : tie.Need-few-pairs-requires-2 Inv-loop μ-loop
-few-pairs-requires-2 c κs = simp (length-take, length-drop) (omega arith)
+count-short-requires-2 : tie.Need-count-short-requires-2 Inv-loop μ-loop
+count-short-requires-2 c κs = simp (length-take, length-drop) (omega arith)
 
 wide-requires-2 : tie.Need-wide-requires-2 Inv-loop μ-loop
 wide-requires-2 c κs = search needs
 
 add-result : tie.Need-add-result Inv-loop μ-loop
-add-result c = omega (arith, simp (length-take, length-drop) at (c .before .few-pairs2 .ensures .1))
+add-result c = omega (arith, simp (length-take, length-drop) at (c .before .count-short2 .ensures .1))
 
 returns : tie.Need-returns Inv-loop μ-loop
 returns c =
     let l = c .before .before .before .before in
     let a = l .before .before .args in
-    let counted = c .wide2 .ensures ∙ c .before .few-pairs2 .ensures .0 in
-    let most = simp (length-take, length-drop) at (c .before .few-pairs2 .ensures .1) in
+    let counted = c .wide2 .ensures ∙ c .before .count-short2 .ensures .0 in
+    let most = simp (length-take, length-drop) at (c .before .count-short2 .ensures .1) in
     (parts-end (a .pairs) (a .s .now) (l .loop .from) (c .wide2 .result) counted (l .loop .count) (l .loop .inv .2), omega (arith, most))
 
 pub count-pairs-spec : {M : Type 1} → statement M
@@ -97,19 +97,19 @@ count-pairs-spec =
     loop-holds
     sub-loop
     add-end
-    sub-few-pairs
-    part-few-pairs-start
-    part-few-pairs-end
-    few-pairs-requires
+    sub-count-short
+    part-count-short-start
+    part-count-short-end
+    count-short-requires
     wide-requires
     add-count
     add-from
     loop-less
     loop-again
-    sub-few-pairs-2
-    part-few-pairs-start-2
-    part-few-pairs-end-2
-    few-pairs-requires-2
+    sub-count-short-2
+    part-count-short-start-2
+    part-count-short-end-2
+    count-short-requires-2
     wide-requires-2
     add-result
     returns)

@@ -1,4 +1,4 @@
--- `reader::pairs::few_pairs` meets its contract. The invariant: what is counted and the pairs from the byte before this on are those of
+-- `reader::pairs::count_short` meets its contract. The invariant: what is counted and the pairs from the byte before this on are those of
 -- the slice, and fewer than i are counted. The measure is what is left of the slice. Assumes nothing.
 use mathlib.Core.Path.{_≡_}
 use Prim.Native.Nat.{_+_, _-_, _≤_, _<_, max}
@@ -7,8 +7,8 @@ use borrow.Author.Needs.{needs}
 use lib.ListN.{length, drop}
 use Rattle.reader.specs.Pairs.{pairsOf}
 use Rattle.reader.proofs.PairLaws.{at-most-one, pair-turn, pairs-end}
-use Rattle.reader.proofs.pairs.few_pairs.Statement.{statement}
-use Rattle.reader.proofs.pairs.few_pairs.Tie as tie
+use Rattle.reader.proofs.pairs.count_short.Statement.{statement}
+use Rattle.reader.proofs.pairs.count_short.Tie as tie
 
 abbrev Inv-loop : tie.InvT-loop
 Inv-loop pairs s count₀ i₀ count i =
@@ -29,11 +29,11 @@ shared-slice-read-b c = search needs
 shared-slice-read-next : tie.Need-shared-slice-read-next Inv-loop μ-loop
 shared-slice-read-next c = search needs
 
-hits-requires : tie.Need-hits-requires Inv-loop μ-loop
-hits-requires c κs = search needs
+matches-requires : tie.Need-matches-requires Inv-loop μ-loop
+matches-requires c κs = search needs
 
-raised-requires : tie.Need-raised-requires Inv-loop μ-loop
-raised-requires c κs = search needs
+add-if-requires : tie.Need-add-if-requires Inv-loop μ-loop
+add-if-requires c κs = search needs
 
 add-i : tie.Need-add-i Inv-loop μ-loop
 add-i c = search needs
@@ -47,8 +47,8 @@ loop-again c =
     let a = l .before .before .args in
     let inside = c .before .before .before .before .loop-test .taken in
     let turn = pair-turn (a .pairs) (a .s .now) (l .loop .i) (l .loop .count) (l .loop .inv .0) (l .loop .inv .3) inside in
-    let below = at-most-one (c .before .hits .result) in
-    (search needs, omega (arith, below, c .raised .ensures), search needs, rw (c .raised .ensures, c .before .hits .ensures) turn)
+    let below = at-most-one (c .before .matches .result) in
+    (search needs, omega (arith, below, c .add-if .ensures), search needs, rw (c .add-if .ensures, c .before .matches .ensures) turn)
 
 returns : tie.Need-returns Inv-loop μ-loop
 returns c =
@@ -56,8 +56,8 @@ returns c =
     let a = l .before .before .args in
     (pairs-end (a .pairs) (a .s .now) (l .loop .i) (l .loop .count) (l .loop .inv .0) (l .loop .inv .3) (c .loop-test .left), search needs)
 
-pub few-pairs-spec : {M : Type 1} → statement M
-few-pairs-spec =
+pub count-short-spec : {M : Type 1} → statement M
+count-short-spec =
     tie.close
     (tie.spec
     Inv-loop
@@ -66,8 +66,8 @@ few-pairs-spec =
     sub-before
     shared-slice-read-b
     shared-slice-read-next
-    hits-requires
-    raised-requires
+    matches-requires
+    add-if-requires
     add-i
     loop-less
     loop-again
