@@ -27,11 +27,11 @@ use Rattle.reader.specs.Plain.{PlainOutcome, plainPeekOf, plainTakeByte,
 use Rattle.reader.specs.Column.{columnOf}
 use Rattle.reader.specs.History.{Call, peekBy, takeBy, readIfBy, zeroSkipBy, blockBy, Answered, peekAnswered, takeAnswered, readAnswered, skipAnswered, blockAnswered, answerBy, answerTo, numberIn, takenIn, passedIn, returned, shownIn, partIn}
 use Rattle.reader.specs.RefusalKeeps.{PlaceFault, SpecialFault, OwnFault, Fault, ResultOrRefusal, CountRefusalKeeps, PlainRefusalKeeps, ColumnRefusalKeeps}
-use Rattle.reader.proofs.Peeking.{turned-away}
-use Rattle.reader.proofs.ReadCases.{read-cases}
-use Rattle.reader.proofs.Answering.{skip-cases}
+use Rattle.reader.proofs.ByteTally.Peek.{turned-away}
+use Rattle.reader.proofs.iterator.ReadCases.{read-cases}
+use Rattle.reader.proofs.ByteTally.Calls.{skip-cases}
 use Rattle.reader.proofs.Repeats.{repeated-stops}
-use Rattle.reader.proofs.Steps.{moves-clear, take-step}
+use Rattle.reader.proofs.ByteTally.Steps.{moves-clear, take-step}
 
 or-else : {A B C : Type 0} → (B → C) → A ⊎ B → A ⊎ C
 or-else f (inl a) = inl a

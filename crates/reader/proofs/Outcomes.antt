@@ -29,7 +29,7 @@ use Rattle.reader.specs.Plain.{PlainOutcome, plainNumber, plainByte, pla
 use Rattle.reader.specs.Column.{ColumnOutcome, columnOutcomeOf}
 use Rattle.reader.specs.Answer.{CountOutcome, countOutcomeOf}
 use Rattle.reader.specs.Answer.{numberOf, Outcome, seenNumber, seenByte, outcomeOf, readNumber, readByte, readOutcomeOf, SkipOutcome, skipNumber, skipZeros, skipOutcomeOf, BlockOutcome, blockNumber, blockBytes, blockOutcomeOf}
-use Rattle.reader.proofs.Admission.{refusal-tells}
+use Rattle.reader.proofs.state.Refusals.{refusal-tells}
 
 -- the refusal with a number; the last one stands for all other numbers
 abbrev refusalFrom : ℕ → Refusal

@@ -1,7 +1,7 @@
 -- `export::block::called` meets its contract. Assumes nothing.
 use Rattle.export.specs.Block.{blockTakenBy, blockWritten}
 use borrow.Author.Needs.{needs}
-use Rattle.reader.proofs.Naming.{named, unnamed}
+use Rattle.reader.proofs.state.Readers.{named, unnamed}
 use Rattle.export.proofs.block.called.Statement.{statement}
 use Rattle.export.proofs.block.called.Tie as tie
 

@@ -1,7 +1,7 @@
 -- `export::block::part` meets its contract. Assumes nothing.
 use Rattle.export.specs.Block.{blockTakenBy, partWritten}
 use borrow.Author.Needs.{needs}
-use Rattle.reader.proofs.Naming.{named, unnamed}
+use Rattle.reader.proofs.state.Readers.{named, unnamed}
 use Rattle.export.proofs.block.part.Statement.{statement}
 use Rattle.export.proofs.block.part.Tie as tie
 

@@ -1,6 +1,6 @@
 -- `export::cells::called` meets its contract. Assumes nothing.
 use Rattle.export.specs.Cells.{takenAllBy}
-use Rattle.reader.proofs.Naming.{named, unnamed}
+use Rattle.reader.proofs.state.Readers.{named, unnamed}
 use borrow.Author.Needs.{needs}
 use Rattle.export.proofs.cells.called.Statement.{statement}
 use Rattle.export.proofs.cells.called.Tie as tie

@@ -1,6 +1,6 @@
 -- `export::cells::column` meets its contract. Assumes nothing.
 use Rattle.export.specs.Cells.{columnReadBy}
-use Rattle.reader.proofs.Naming.{named, unnamed}
+use Rattle.reader.proofs.state.Readers.{named, unnamed}
 use borrow.Author.Needs.{needs}
 use Rattle.export.proofs.cells.column.Statement.{statement}
 use Rattle.export.proofs.cells.column.Tie as tie

@@ -1,7 +1,7 @@
 -- `export::reply::called` meets its contract. Assumes nothing.
 use Rattle.export.specs.Reply.{calledBy}
 use borrow.Author.Needs.{needs}
-use Rattle.reader.proofs.Naming.{named, unnamed}
+use Rattle.reader.proofs.state.Readers.{named, unnamed}
 use Rattle.export.proofs.reply.called.Statement.{statement}
 use Rattle.export.proofs.reply.called.Tie as tie
 

@@ -1,7 +1,7 @@
 -- `export::reply::current_count` meets its contract. Assumes nothing.
 use Rattle.export.specs.Reply.{countedFor}
 use borrow.Author.Needs.{needs}
-use Rattle.reader.proofs.Naming.{named, unnamed}
+use Rattle.reader.proofs.state.Readers.{named, unnamed}
 use Rattle.export.proofs.reply.current_count.Statement.{statement}
 use Rattle.export.proofs.reply.current_count.Tie as tie
 

@@ -1,7 +1,7 @@
 -- `export::zeros::called` meets its contract. Assumes nothing.
 use Rattle.export.specs.Zeros.{skippedBy, skipWritten}
 use borrow.Author.Needs.{needs}
-use Rattle.reader.proofs.Naming.{named, unnamed}
+use Rattle.reader.proofs.state.Readers.{named, unnamed}
 use Rattle.export.proofs.zeros.called.Statement.{statement}
 use Rattle.export.proofs.zeros.called.Tie as tie
 

@@ -1,8 +1,8 @@
 -- `reader::bytes::take_to_end` meets its contract: a walk of its MIR, by hand. A `Bytes` is made in a local and lent to `next_all` (proofs/Local.antt, proofs/Lending.antt), whose answer is handed on.
 -- Assumes nothing.
-use Rattle.reader.proofs.Walk.EL
-use Rattle.reader.proofs.Walk.LL
-use Rattle.reader.proofs.Walk.{_≡_, _∙_, refl, ap, subst, ℕ, List, [], _∷_, length, URA, fullShare, PosShare·left, PosShare·right, named, erased, Val, vptr, SProp, ent, sep, emp, via, fst∗, snd∗, exE, id⊢, GName, Lft, Share, Fml, ftrue, flft, fat, Memory, Routine, Heap, Calls, Loops, WpFn, Tables, Atoms, sem, Fun, fact, givenOf, tables, tablesOf, Given, ‵, raw, _⊛_, ⋆, some, later, _$_, _∵_, !, qed, by, move, keep, drop, use1, use2, use3, split, join, pick, learn, rewrite, fsplit, fjoin, suffices, frame, await, done, agg, look, init, forget, stop, from, load, addr, of-opd, and-then, no-more, assigns, land, returns, enter, alloc1, alloc0, params1, pass1, pass0, free1, free0, FmC, fmOf, WpFn-mono, owns, Is, shows, u8, RefT, NamedLft, plain, sliceVal, ShrSlice, slice-vals, shr-slice-tells, shr-slice-lawful, shr-slice-copy, owned, peeks, heard, nothing, Contract, Triple, calls-at, ensured, lasts, Vals, onEntry, Meets, tripleOf, entered, cited, says, Stays, stay-none, stay-none-slice, walkOf, goes-none, goes-none-slice, Walks, ends-at, walked, walk-meets, yes}
+use Rattle.reader.proofs.bytes.Logic.EL
+use Rattle.reader.proofs.bytes.Logic.LL
+use Rattle.reader.proofs.bytes.Logic.{_≡_, _∙_, refl, ap, subst, ℕ, List, [], _∷_, length, URA, fullShare, PosShare·left, PosShare·right, named, erased, Val, vptr, SProp, ent, sep, emp, via, fst∗, snd∗, exE, id⊢, GName, Lft, Share, Fml, ftrue, flft, fat, Memory, Routine, Heap, Calls, Loops, WpFn, Tables, Atoms, sem, Fun, fact, givenOf, tables, tablesOf, Given, ‵, raw, _⊛_, ⋆, some, later, _$_, _∵_, !, qed, by, move, keep, drop, use1, use2, use3, split, join, pick, learn, rewrite, fsplit, fjoin, suffices, frame, await, done, agg, look, init, forget, stop, from, load, addr, of-opd, and-then, no-more, assigns, land, returns, enter, alloc1, alloc0, params1, pass1, pass0, free1, free0, FmC, fmOf, WpFn-mono, owns, Is, shows, u8, RefT, NamedLft, plain, sliceVal, ShrSlice, slice-vals, shr-slice-tells, shr-slice-lawful, shr-slice-copy, owned, peeks, heard, nothing, Contract, Triple, calls-at, ensured, lasts, Vals, onEntry, Meets, tripleOf, entered, cited, says, Stays, stay-none, stay-none-slice, walkOf, goes-none, goes-none-slice, Walks, ends-at, walked, walk-meets, yes}
 use Rattle.reader.specs.declared.skip.Report.{Report}
 use Rattle.reader.specs.declared.state.State.{State}
 use Rattle.reader.specs.Answer.{Outcome, outcomeOf}
@@ -11,7 +11,7 @@ use Rattle.reader.specs.Reading.{syntaxOn}
 use Rattle.reader.specs.declared.bytes.Bytes.{Bytes}
 use Rattle.word.specs.declared.format_flags.Format.{Format}
 use Rattle.reader.specs.declared.state.Reader.{Reader}
-use Rattle.reader.proofs.Close.{concluded}
+use Rattle.reader.proofs.bytes.Conclusion.{concluded}
 use Rattle.reader.proofs.bytes.Bytes as T
 use Rattle.reader.proofs.bytes.Bytes.Laws as T′
 use Rattle.word.proofs.format_flags.Format as F
@@ -20,9 +20,9 @@ use Rattle.reader.proofs.state.Reader as R
 use Rattle.reader.proofs.state.Reader.Laws as R′
 use Rattle.reader.proofs.skip.Report as To
 use Rattle.reader.proofs.skip.Report.Laws as To′
-use Rattle.reader.proofs.Spelt.{is-at, val-at}
-use Rattle.reader.proofs.Local as local
-use Rattle.reader.proofs.Lending.{Next, B, to, Loan, asks, Said, Given-back, gives}
+use Rattle.reader.proofs.bytes.MachineValues.{is-at, val-at}
+use Rattle.reader.proofs.bytes.LocalValue as local
+use Rattle.reader.proofs.bytes.LocalLoan.{Next, B, to, Loan, asks, Said, Given-back, gives}
 use Rattle.reader.proofs.bytes.Bytes.new as new
 use Rattle.reader.proofs.bytes.Bytes.new.Symbol as new-def
 use Rattle.reader.proofs.bytes.Bytes.new.Symbol.{name as #new}

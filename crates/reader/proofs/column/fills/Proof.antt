@@ -1,7 +1,7 @@
 -- `reader::column::fills` meets its contract: the last end is the one at the last index. Assumes nothing.
 use native.Mathlib.Omega.{arith}
 use borrow.Author.Needs.{needs}
-use Rattle.reader.proofs.ColumnLaws.{none-fills, fills-told}
+use Rattle.reader.proofs.column.Cells.{none-fills, fills-told}
 use Rattle.reader.proofs.column.fills.Statement.{statement}
 use Rattle.reader.proofs.column.fills.Tie as tie
 

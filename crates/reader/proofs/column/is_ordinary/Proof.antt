@@ -7,7 +7,7 @@ use borrow.Author.Needs.{needs}
 use borrow.Author.Tests.{eqb-false, not-true}
 use lib.Dec.{eqb}
 use lib.ListN.{getD}
-use Rattle.reader.proofs.ColumnLaws.{empty-cell, ordinary-cell}
+use Rattle.reader.proofs.column.Cells.{empty-cell, ordinary-cell}
 use Rattle.reader.proofs.column.is_ordinary.Statement.{statement}
 use Rattle.reader.proofs.column.is_ordinary.Tie as tie
 

@@ -6,7 +6,7 @@ use native.Mathlib.Omega.{arith}
 use borrow.Author.Needs.{needs}
 use borrow.Author.Tests.{not-false}
 use lib.ListN.{length}
-use Rattle.reader.proofs.Stretches.{Walked, walk-starts, walk-goes-on, walk-ends}
+use Rattle.reader.proofs.column.Stretches.{Walked, walk-starts, walk-goes-on, walk-ends}
 use Rattle.reader.proofs.column.past_ordinary.Statement.{statement}
 use Rattle.reader.proofs.column.past_ordinary.Tie as tie
 

@@ -5,7 +5,7 @@ use mathlib.Core.Bool.{true, false}
 use Prim.Native.Nat.{_+_}
 use native.Mathlib.Omega.{arith}
 use borrow.Author.Needs.{needs}
-use Rattle.reader.proofs.ColumnLaws.{empty-stretch, stretch-told}
+use Rattle.reader.proofs.column.Cells.{empty-stretch, stretch-told}
 use Rattle.reader.proofs.column.stretch_totals.Statement.{statement}
 use Rattle.reader.proofs.column.stretch_totals.Tie as tie
 

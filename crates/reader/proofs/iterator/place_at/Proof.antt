@@ -1,7 +1,7 @@
 -- `reader::iterator::place_at` meets its contract. Assumes nothing.
 use native.Mathlib.Omega.{arith}
-use Rattle.reader.proofs.Places.{no-separator}
-use Rattle.reader.proofs.Landings.{stays-at-end, stays-on-other}
+use Rattle.reader.proofs.passing.Places.{no-separator}
+use Rattle.reader.proofs.passing.Landings.{stays-at-end, stays-on-other}
 use borrow.Author.Needs.{needs}
 use Rattle.reader.proofs.iterator.place_at.Statement.{statement}
 use Rattle.reader.proofs.iterator.place_at.Tie as tie

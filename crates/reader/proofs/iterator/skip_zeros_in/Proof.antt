@@ -2,7 +2,7 @@
 use mathlib.Core.Path.{_∙_, sym, ap}
 use Rattle.reader.specs.Reading.{readingWith}
 use Rattle.reader.specs.Answer.{admissionNumber}
-use Rattle.reader.proofs.Zeros.{skip-refused}
+use Rattle.reader.proofs.iterator.Zeros.{skip-refused}
 use borrow.Author.Needs.{needs}
 use Rattle.reader.proofs.iterator.skip_zeros_in.Statement.{statement}
 use Rattle.reader.proofs.iterator.skip_zeros_in.Tie as tie

@@ -8,7 +8,7 @@ use borrow.Author.Tests.{not-true, not-false}
 use lib.Dec.{eqb}
 use lib.ListN.{length}
 use Rattle.reader.specs.Reading.{readingWith}
-use Rattle.reader.proofs.Skipping.{plain-zero, Skipping, skipping-starts, skipping-sums, skipping-room, skipping-on, skipping-by-one, skipping-over}
+use Rattle.reader.proofs.iterator.ZeroLoop.{plain-zero, Skipping, skipping-starts, skipping-sums, skipping-room, skipping-on, skipping-by-one, skipping-over}
 use Rattle.reader.proofs.iterator.take_zeros.Statement.{statement}
 use Rattle.reader.proofs.iterator.take_zeros.Tie as tie
 

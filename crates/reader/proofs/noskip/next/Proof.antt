@@ -1,5 +1,5 @@
 -- `reader::noskip::next` meets its contract. Assumes nothing.
-use Rattle.reader.proofs.Plain.{past-end, on-byte, at-end}
+use Rattle.reader.proofs.noskip.Cases.{past-end, on-byte, at-end}
 use Rattle.reader.specs.Plain.{plainNextOf}
 use borrow.Author.Needs.{needs}
 use Rattle.reader.proofs.noskip.next.Statement.{statement}

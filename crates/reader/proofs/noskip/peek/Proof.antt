@@ -1,5 +1,5 @@
 -- `reader::noskip::peek` meets its contract. Assumes nothing.
-use Rattle.reader.proofs.Plain.{past-end, on-byte, at-end}
+use Rattle.reader.proofs.noskip.Cases.{past-end, on-byte, at-end}
 use borrow.Author.Needs.{needs}
 use Rattle.reader.proofs.noskip.peek.Statement.{statement}
 use Rattle.reader.proofs.noskip.peek.Tie as tie

@@ -6,7 +6,7 @@ use native.Mathlib.Omega.{arith}
 use borrow.Author.Needs.{needs}
 use lib.ListN.{length, drop, length-take, length-drop}
 use Rattle.reader.specs.Pairs.{pairsOf}
-use Rattle.reader.proofs.PairLaws.{part-most, part-turn, parts-end}
+use Rattle.reader.proofs.pairs.Counts.{part-most, part-turn, parts-end}
 use Rattle.reader.proofs.pairs.count_pairs.Statement.{statement}
 use Rattle.reader.proofs.pairs.count_pairs.Tie as tie
 

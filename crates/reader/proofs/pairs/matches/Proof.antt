@@ -1,6 +1,6 @@
 -- `reader::pairs::matches` meets its contract: its test by operations on Bools is that by cases. Assumes nothing.
 use borrow.Author.Needs.{needs}
-use Rattle.reader.proofs.PairLaws.{kinds}
+use Rattle.reader.proofs.pairs.Counts.{kinds}
 use Rattle.reader.proofs.pairs.matches.Statement.{statement}
 use Rattle.reader.proofs.pairs.matches.Tie as tie
 

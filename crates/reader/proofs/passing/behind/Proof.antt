@@ -3,7 +3,7 @@
 use Prim.Native.Nat.{suc}
 use native.Mathlib.Numerals.{add-one}
 use mathlib.Core.Path.{_∙_}
-use Rattle.reader.proofs.Places.{run-byte, run-over}
+use Rattle.reader.proofs.passing.Places.{run-byte, run-over}
 use borrow.Author.Needs.{needs}
 use Rattle.reader.proofs.passing.behind.Statement.{statement}
 use Rattle.reader.proofs.passing.behind.Tie as tie

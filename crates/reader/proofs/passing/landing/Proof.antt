@@ -1,8 +1,8 @@
 -- `reader::passing::landing` meets its contract. Assumes nothing.
 use mathlib.Core.Path.{_≡_}
 use native.Mathlib.Omega.{arith}
-use Rattle.reader.proofs.Places.{no-separator, no-separator-at-all}
-use Rattle.reader.proofs.Landings.{stays-at-end, stays-on-other, stays-by-rule, passes-one, passes-run}
+use Rattle.reader.proofs.passing.Places.{no-separator, no-separator-at-all}
+use Rattle.reader.proofs.passing.Landings.{stays-at-end, stays-on-other, stays-by-rule, passes-one, passes-run}
 use borrow.Author.Needs.{needs}
 use Rattle.reader.proofs.passing.landing.Statement.{statement}
 use Rattle.reader.proofs.passing.landing.Tie as tie

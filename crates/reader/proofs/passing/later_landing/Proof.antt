@@ -5,8 +5,8 @@ use mathlib.Core.Bool.{true, false}
 use native.Mathlib.Omega.{arith}
 use Rattle.reader.specs.Reading.{readingWith, previous, following}
 use Rattle.reader.specs.Rule.{ruleOf}
-use Rattle.reader.proofs.Places.{no-separator-at-all}
-use Rattle.reader.proofs.Landings.{asked-behind, stays-on-other, stays-behind, passes-behind}
+use Rattle.reader.proofs.passing.Places.{no-separator-at-all}
+use Rattle.reader.proofs.passing.Landings.{asked-behind, stays-on-other, stays-behind, passes-behind}
 use borrow.Author.Needs.{needs}
 use Rattle.reader.proofs.passing.later_landing.Statement.{statement}
 use Rattle.reader.proofs.passing.later_landing.Tie as tie

@@ -1,5 +1,5 @@
 -- `reader::passing::neighbour_at` meets its contract. Assumes nothing.
-use Rattle.reader.proofs.Places.{byte-here, no-byte}
+use Rattle.reader.proofs.passing.Places.{byte-here, no-byte}
 use borrow.Author.Needs.{needs}
 use Rattle.reader.proofs.passing.neighbour_at.Statement.{statement}
 use Rattle.reader.proofs.passing.neighbour_at.Tie as tie

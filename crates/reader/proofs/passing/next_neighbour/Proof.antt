@@ -2,8 +2,8 @@
 use Prim.Native.Nat.{_+_}
 use native.Mathlib.Numerals.{add-one}
 use Rattle.reader.specs.Place.{after}
-use Rattle.reader.proofs.Places.{run-byte}
-use Rattle.reader.proofs.Landings.{unwanted, nearest-other, nearest-byte}
+use Rattle.reader.proofs.passing.Places.{run-byte}
+use Rattle.reader.proofs.passing.Landings.{unwanted, nearest-other, nearest-byte}
 use borrow.Author.Needs.{needs}
 use Rattle.reader.proofs.passing.next_neighbour.Statement.{statement}
 use Rattle.reader.proofs.passing.next_neighbour.Tie as tie

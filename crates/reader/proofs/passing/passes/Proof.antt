@@ -1,6 +1,6 @@
 -- `reader::passing::passes` meets its contract: a neighbour that the rule does not name may be any. Assumes nothing.
 use mathlib.Core.Path.{sym}
-use Rattle.reader.proofs.RuleLaws.{unnamed-is-free}
+use Rattle.reader.proofs.rule.CommonLaws.{unnamed-is-free}
 use borrow.Author.Needs.{needs}
 use Rattle.reader.proofs.passing.passes.Statement.{statement}
 use Rattle.reader.proofs.passing.passes.Tie as tie

@@ -1,8 +1,8 @@
 -- `reader::passing::previous_neighbour` meets its contract. Assumes nothing.
 use native.Mathlib.Omega.{arith}
 use Rattle.reader.specs.Place.{before}
-use Rattle.reader.proofs.Places.{byte-before}
-use Rattle.reader.proofs.Landings.{unwanted, nearest-other, nearest-byte}
+use Rattle.reader.proofs.passing.Places.{byte-before}
+use Rattle.reader.proofs.passing.Landings.{unwanted, nearest-other, nearest-byte}
 use borrow.Author.Needs.{needs}
 use Rattle.reader.proofs.passing.previous_neighbour.Statement.{statement}
 use Rattle.reader.proofs.passing.previous_neighbour.Tie as tie

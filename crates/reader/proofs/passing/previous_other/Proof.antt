@@ -1,7 +1,7 @@
 -- `reader::passing::previous_other` meets its contract. The measure is the place after the index. Assumes nothing.
 use native.Mathlib.Omega.{arith}
 use borrow.Author.Needs.{needs}
-use Rattle.reader.proofs.Places.{placeAfter, Searching, search-starts, search-ends, search-finds, search-goes-on}
+use Rattle.reader.proofs.passing.Places.{placeAfter, Searching, search-starts, search-ends, search-finds, search-goes-on}
 use Rattle.reader.proofs.passing.previous_other.Statement.{statement}
 use Rattle.reader.proofs.passing.previous_other.Tie as tie
 

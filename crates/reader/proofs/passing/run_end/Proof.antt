@@ -5,7 +5,7 @@ use Prim.Native.Nat.{_-_, _≤_}
 use native.Mathlib.Omega.{arith}
 use borrow.Author.Needs.{needs}
 use lib.ListN.{length}
-use Rattle.reader.proofs.Places.{runEnd, run-out, run-stops, run-over}
+use Rattle.reader.proofs.passing.Places.{runEnd, run-out, run-stops, run-over}
 use Rattle.reader.proofs.passing.run_end.Statement.{statement}
 use Rattle.reader.proofs.passing.run_end.Tie as tie
 

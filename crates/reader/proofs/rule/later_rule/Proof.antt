@@ -3,7 +3,7 @@
 use mathlib.Core.Path.{_∙_, sym}
 use mathlib.Core.Bool.{false}
 use native.Mathlib.Nat.{zero-add}
-use Rattle.reader.proofs.RuleLaws.{absent, later-looks-behind, never-holds}
+use Rattle.reader.proofs.rule.CommonLaws.{absent, later-looks-behind, never-holds}
 use borrow.Author.Needs.{needs}
 use Rattle.reader.proofs.rule.later_rule.Statement.{statement}
 use Rattle.reader.proofs.rule.later_rule.Tie as tie

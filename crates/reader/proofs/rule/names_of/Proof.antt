@@ -2,7 +2,7 @@
 use borrow.Author.Needs.{needs}
 use Rattle.word.specs.Bits.{bit}
 use Rattle.reader.specs.Rule.{namesOf}
-use Rattle.reader.proofs.RuleTable.{every, everyCell, areNames, names-hold}
+use Rattle.reader.proofs.rule.Table.{every, everyCell, areNames, names-hold}
 use Rattle.reader.proofs.rule.names_of.Statement.{statement}
 use Rattle.reader.proofs.rule.names_of.Tie as tie
 

@@ -5,7 +5,7 @@ use native.Mathlib.Omega.{arith}
 use borrow.Author.Needs.{needs}
 use Rattle.word.specs.Bits.{bit}
 use Rattle.reader.specs.Rule.{ruleOf}
-use Rattle.reader.proofs.RuleTable.{every, everyCell, everyPair, isEntry, entry-holds}
+use Rattle.reader.proofs.rule.Table.{every, everyCell, everyPair, isEntry, entry-holds}
 use Rattle.reader.proofs.rule.rule_word.Statement.{statement}
 use Rattle.reader.proofs.rule.rule_word.Tie as tie
 

@@ -4,7 +4,7 @@ use native.Mathlib.Omega.{arith}
 use Rattle.reader.specs.Reading.{readingWith}
 use Rattle.reader.specs.Answer.{admissionNumber}
 use Rattle.reader.specs.Calls.{shownCount, currentCountOf, placeRefusal}
-use Rattle.reader.proofs.Admission.{place-within, refusal-tells}
+use Rattle.reader.proofs.state.Refusals.{place-within, refusal-tells}
 use borrow.Author.Needs.{needs}
 use Rattle.reader.proofs.skip.current_count.Statement.{statement}
 use Rattle.reader.proofs.skip.current_count.Tie as tie

@@ -3,7 +3,7 @@ use mathlib.Core.Path.{_≡_, _∙_, sym, ap}
 use Rattle.reader.specs.Reading.{readingWith}
 use Rattle.reader.specs.Answer.{admissionNumber}
 use Rattle.reader.specs.Calls.{refusalWith}
-use Rattle.reader.proofs.Admission.{within, peek-admitted, peek-refused}
+use Rattle.reader.proofs.state.Refusals.{within, peek-admitted, peek-refused}
 use borrow.Author.Needs.{needs}
 use Rattle.reader.proofs.skip.look.Statement.{statement}
 use Rattle.reader.proofs.skip.look.Tie as tie

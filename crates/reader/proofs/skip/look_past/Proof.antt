@@ -3,7 +3,7 @@ use mathlib.Core.Path.{_≡_, sym}
 use Prim.Native.Nat.{_+_}
 use native.Mathlib.Omega.{arith}
 use Rattle.reader.specs.Calls.{peeked}
-use Rattle.reader.proofs.Looking.{looked-byte, looked-end}
+use Rattle.reader.proofs.skip.Looks.{looked-byte, looked-end}
 use borrow.Author.Needs.{needs}
 use Rattle.reader.proofs.skip.look_past.Statement.{statement}
 use Rattle.reader.proofs.skip.look_past.Tie as tie

@@ -3,8 +3,8 @@ use mathlib.Core.Path.{_≡_, _∙_, sym, ap}
 use Rattle.reader.specs.Reading.{readingWith}
 use Rattle.reader.specs.Answer.{admissionNumber}
 use Rattle.reader.specs.Calls.{nextAllOf}
-use Rattle.reader.proofs.Admission.{peek-refused}
-use Rattle.reader.proofs.Takes.{refused-at-once}
+use Rattle.reader.proofs.state.Refusals.{peek-refused}
+use Rattle.reader.proofs.skip.Takes.{refused-at-once}
 use borrow.Author.Needs.{needs}
 use Rattle.reader.proofs.skip.next_all_in.Statement.{statement}
 use Rattle.reader.proofs.skip.next_all_in.Tie as tie

@@ -4,8 +4,8 @@ use Rattle.reader.specs.declared.passing.Syntax.{Syntax}
 use Rattle.reader.specs.Reading.{readingWith, readingFor}
 use Rattle.reader.specs.Answer.{admissionNumber}
 use Rattle.reader.specs.Block.{blockRefusal, blockFrom}
-use Rattle.reader.proofs.Admission.{block-within}
-use Rattle.reader.proofs.Blocks.{block-admitted, block-refused}
+use Rattle.reader.proofs.state.Refusals.{block-within}
+use Rattle.reader.proofs.skip.Blocks.{block-admitted, block-refused}
 use borrow.Author.Needs.{needs}
 use Rattle.reader.proofs.skip.take_n.Statement.{statement}
 use Rattle.reader.proofs.skip.take_n.Tie as tie

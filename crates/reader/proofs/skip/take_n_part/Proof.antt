@@ -1,7 +1,7 @@
 -- `reader::skip::take_n_part` meets its contract: the part lies between the two cursors. Assumes nothing.
 use native.Mathlib.Omega.{arith}
 use Rattle.reader.specs.Reading.{readingFor}
-use Rattle.reader.proofs.Blocks.{part-within, part-of-block, part-of-none}
+use Rattle.reader.proofs.skip.Blocks.{part-within, part-of-block, part-of-none}
 use borrow.Author.Needs.{needs}
 use Rattle.reader.proofs.skip.take_n_part.Statement.{statement}
 use Rattle.reader.proofs.skip.take_n_part.Tie as tie

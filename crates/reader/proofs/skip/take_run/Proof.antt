@@ -10,10 +10,10 @@ use Rattle.reader.specs.declared.state.Reader.{Reader}
 use Rattle.reader.specs.declared.state.State.{State}
 use Rattle.reader.specs.Reading.{readingWith}
 use Rattle.reader.specs.Calls.{nextAllOf}
-use Rattle.reader.proofs.Places.{no-separator}
-use Rattle.reader.proofs.Landings.{stays-on-other}
-use Rattle.reader.proofs.Standing.{standing-counts}
-use Rattle.reader.proofs.Running.{Begins, Running, running-starts, running-on, running-over, running-out}
+use Rattle.reader.proofs.passing.Places.{no-separator}
+use Rattle.reader.proofs.passing.Landings.{stays-on-other}
+use Rattle.reader.proofs.skip.LoopState.{standing-counts}
+use Rattle.reader.proofs.skip.TakeLoop.{Begins, Running, running-starts, running-on, running-over, running-out}
 use Rattle.reader.proofs.skip.take_run.Statement.{statement}
 use Rattle.reader.proofs.skip.take_run.Tie as tie
 

@@ -4,7 +4,7 @@ use mathlib.Core.List.{[], _∷_}
 use Rattle.reader.specs.State.{isCounted}
 use Rattle.reader.specs.Calls.{line16, line17, placeRefusal}
 use Rattle.reader.specs.Block.{blockRefusal}
-use Rattle.reader.proofs.Admission.{one-more}
+use Rattle.reader.proofs.state.Refusals.{one-more}
 use borrow.Author.Needs.{needs}
 use Rattle.reader.proofs.state.admit_block.Statement.{statement}
 use Rattle.reader.proofs.state.admit_block.Tie as tie

@@ -6,7 +6,7 @@ use Rattle.reader.specs.Reading.{isConsecutiveAlone}
 use Rattle.reader.specs.Calls.{line16, line17, line18, consecutiveNumber}
 use Rattle.reader.specs.Block.{blockRefusal}
 use Rattle.reader.specs.ZeroSkip.{skipRefusal}
-use Rattle.reader.proofs.Admission.{one-more}
+use Rattle.reader.proofs.state.Refusals.{one-more}
 use borrow.Author.Needs.{needs}
 use Rattle.reader.proofs.state.admit_skip.Statement.{statement}
 use Rattle.reader.proofs.state.admit_skip.Tie as tie

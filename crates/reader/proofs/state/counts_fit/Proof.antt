@@ -4,7 +4,7 @@ use Prim.Native.Nat.{_+_, _-_}
 use native.Mathlib.Omega.{arith}
 use borrow.Author.Tests.{lt-leb}
 use Rattle.reader.specs.State.{countSum}
-use Rattle.reader.proofs.Tests.{leb-same}
+use Rattle.reader.proofs.state.Tests.{leb-same}
 use borrow.Author.Needs.{needs}
 use Rattle.reader.proofs.state.counts_fit.Statement.{statement}
 use Rattle.reader.proofs.state.counts_fit.Tie as tie

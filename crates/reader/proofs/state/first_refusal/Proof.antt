@@ -1,5 +1,5 @@
 -- `reader::state::first_refusal` meets its contract: a refusal is told by its number. Assumes nothing.
-use Rattle.reader.proofs.Admission.{refusal-tells}
+use Rattle.reader.proofs.state.Refusals.{refusal-tells}
 use borrow.Author.Needs.{needs}
 use Rattle.reader.proofs.state.first_refusal.Statement.{statement}
 use Rattle.reader.proofs.state.first_refusal.Tie as tie

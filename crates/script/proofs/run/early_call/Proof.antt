@@ -1,5 +1,5 @@
 -- `script::run::early_call` meets its contract. Assumes nothing.
-use Rattle.reader.proofs.Naming.{named, unnamed}
+use Rattle.reader.proofs.state.Readers.{named, unnamed}
 use borrow.Author.Needs.{needs}
 use Rattle.script.proofs.run.early_call.Statement.{statement}
 use Rattle.script.proofs.run.early_call.Tie as tie

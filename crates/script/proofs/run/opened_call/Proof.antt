@@ -1,5 +1,5 @@
 -- `script::run::opened_call` meets its contract. Assumes nothing.
-use Rattle.reader.proofs.Naming.{named, unnamed}
+use Rattle.reader.proofs.state.Readers.{named, unnamed}
 use borrow.Author.Needs.{needs}
 use Rattle.script.proofs.run.opened_call.Statement.{statement}
 use Rattle.script.proofs.run.opened_call.Tie as tie

@@ -1,11 +1,11 @@
 -- `reader::bytes::Bytes::cursor` meets its contract: a walk of its MIR, by hand. A number is read from a field of the struct, and the struct is seen at exit as it was passed.
 -- That the number fits its type is in the struct's relation, at the field's place.
 -- Assumes nothing.
-use Rattle.reader.proofs.Walk.{refl, _<_, _^_, [], _∷_, URA, w64, Val, vint, SProp, ent, emp, via, fst∗, Lft, Share, ftrue, flft, Memory, Routine, Heap, Calls, Loops, WpFn, Atoms, Fun, givenOf, tables, Given, ‵, _⊛_, _$_, _∵_, !, qed, by, move, suffices, frame, done, whole, sub, look-in, look, init, forget, stop, fld, from, load, of-opd, assigns, returns, enter, alloc1, alloc0, params1, pass1, pass0, free1, free0, owns, Is, uint-makes, usize, owned, onEntry, says, Stays, stay-none, walkOf, goes-none, ends-at, yes}
+use Rattle.reader.proofs.bytes.Logic.{refl, _<_, _^_, [], _∷_, URA, w64, Val, vint, SProp, ent, emp, via, fst∗, Lft, Share, ftrue, flft, Memory, Routine, Heap, Calls, Loops, WpFn, Atoms, Fun, givenOf, tables, Given, ‵, _⊛_, _$_, _∵_, !, qed, by, move, suffices, frame, done, whole, sub, look-in, look, init, forget, stop, fld, from, load, of-opd, assigns, returns, enter, alloc1, alloc0, params1, pass1, pass0, free1, free0, owns, Is, uint-makes, usize, owned, onEntry, says, Stays, stay-none, walkOf, goes-none, ends-at, yes}
 use Rattle.reader.specs.declared.bytes.Bytes.{Bytes}
-use Rattle.reader.proofs.Close.{concluded}
-use Rattle.reader.proofs.Kept.{mach, wt}
-use Rattle.reader.proofs.Parted.{α, B, vals, tells}
+use Rattle.reader.proofs.bytes.Conclusion.{concluded}
+use Rattle.reader.proofs.bytes.Ownership.{mach, wt}
+use Rattle.reader.proofs.bytes.ByValue.{α, B, vals, tells}
 use Rattle.reader.proofs.bytes.Bytes.cursor.Key.{name as #f}
 use Rattle.reader.proofs.bytes.Bytes.cursor as cursor
 use Rattle.reader.proofs.bytes.Bytes.cursor.Statement as stated

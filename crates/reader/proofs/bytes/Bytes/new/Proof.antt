@@ -1,20 +1,20 @@
 -- `reader::bytes::Bytes::new` meets its contract: a walk of its MIR, by hand. The state is made by `State::fresh`, which is covered, and a `Bytes` of the slice passed and of it, in the result's local.
 -- Assumes nothing.
-use Rattle.reader.proofs.Walk.LL
-use Rattle.reader.proofs.Walk.{_≡_, subst, sym, Holds, hasTy, refl, ap, ℕ, List, [], _∷_, length, URA, fullShare, named, Val, SProp, ent, emp, via, fst∗, snd∗, exE, id⊢, Lft, Share, Fml, ftrue, flft, fat, Memory, Routine, Heap, Calls, Loops, WpFn, Atoms, sem, Fun, fact, givenOf, tables, Given, ‵, raw, _⊛_, some, later, _$_, _∵_, !, qed, by, move, drop, use1, split, join, pick, rewrite, fsplit, fjoin, suffices, frame, await, done, agg, look, init, forget, stop, from, load, and-then, no-more, assigns, land, returns, enter, alloc1, alloc0, params1, pass1, pass0, free1, free0, FmC, owns, Is, shows, u8, RefT, NamedLft, plain, namedLft, sliceVal, ShrSlice, slice-vals, shr-slice-tells, shr-slice-lawful, shr-slice-copy, nothing, owned, facts, heard, own-shut, Contract, Triple, calls-at, ensured, lasts, onEntry, tripleOf, cited, says, Stays, stay-none, stay-none-slice, walkOf, goes-none, goes-none-slice, ends-at, yes}
+use Rattle.reader.proofs.bytes.Logic.LL
+use Rattle.reader.proofs.bytes.Logic.{_≡_, subst, sym, Holds, hasTy, refl, ap, ℕ, List, [], _∷_, length, URA, fullShare, named, Val, SProp, ent, emp, via, fst∗, snd∗, exE, id⊢, Lft, Share, Fml, ftrue, flft, fat, Memory, Routine, Heap, Calls, Loops, WpFn, Atoms, sem, Fun, fact, givenOf, tables, Given, ‵, raw, _⊛_, some, later, _$_, _∵_, !, qed, by, move, drop, use1, split, join, pick, rewrite, fsplit, fjoin, suffices, frame, await, done, agg, look, init, forget, stop, from, load, and-then, no-more, assigns, land, returns, enter, alloc1, alloc0, params1, pass1, pass0, free1, free0, FmC, owns, Is, shows, u8, RefT, NamedLft, plain, namedLft, sliceVal, ShrSlice, slice-vals, shr-slice-tells, shr-slice-lawful, shr-slice-copy, nothing, owned, facts, heard, own-shut, Contract, Triple, calls-at, ensured, lasts, onEntry, tripleOf, cited, says, Stays, stay-none, stay-none-slice, walkOf, goes-none, goes-none-slice, ends-at, yes}
 use Rattle.reader.specs.State.{freshOf}
 use Rattle.word.specs.declared.format_flags.Format.{Format}
 use Rattle.reader.specs.declared.state.State.{State}
 use Rattle.reader.specs.declared.bytes.Bytes.{Bytes}
-use Rattle.reader.proofs.Close.{concluded}
-use Rattle.reader.proofs.Kept.{stateVal, mach}
+use Rattle.reader.proofs.bytes.Conclusion.{concluded}
+use Rattle.reader.proofs.bytes.Ownership.{stateVal, mach}
 use Rattle.reader.proofs.bytes.Bytes as T
 use Rattle.reader.proofs.bytes.Bytes.Laws as T′
 use Rattle.reader.proofs.state.State as S
 use Rattle.reader.proofs.state.State.Laws as S′
 use Rattle.word.proofs.format_flags.Format as F
 use Rattle.word.proofs.format_flags.Format.Laws as F′
-use Rattle.reader.proofs.Spelt.{is-at, val-at}
+use Rattle.reader.proofs.bytes.MachineValues.{is-at, val-at}
 use Rattle.reader.proofs.state.State.fresh as g
 use Rattle.reader.proofs.state.State.fresh.Symbol as g-def
 use Rattle.reader.proofs.state.State.fresh.Symbol.{name as #g}

@@ -5,8 +5,8 @@ use contract.Monad.{factI}
 use denote.Triple.Table.{cited}
 use Rattle.reader.specs.Answer.{readOutcomeOf}
 use Rattle.reader.specs.Bytes.{readBytes}
-use Rattle.reader.proofs.ShapeWith.{Core, of-shape}
-use Rattle.reader.proofs.AnswerTypes.{read-answers, sets}
+use Rattle.reader.proofs.bytes.LentCallWith.{Core, of-shape}
+use Rattle.reader.proofs.bytes.AnswerTypes.{read-answers, sets}
 use Rattle.reader.proofs.iterator.ReadAnswer as answer
 use Rattle.reader.proofs.iterator.read_if as g
 use Rattle.reader.proofs.iterator.read_if.Symbol as g-def

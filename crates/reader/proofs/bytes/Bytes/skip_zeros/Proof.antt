@@ -5,8 +5,8 @@ use contract.Monad.{factI}
 use denote.Triple.Table.{cited}
 use Rattle.reader.specs.Answer.{skipOutcomeOf}
 use Rattle.reader.specs.Bytes.{skipBytes}
-use Rattle.reader.proofs.Shape.{Core, of-shape}
-use Rattle.reader.proofs.AnswerTypes.{skip-answers}
+use Rattle.reader.proofs.bytes.LentCall.{Core, of-shape}
+use Rattle.reader.proofs.bytes.AnswerTypes.{skip-answers}
 use Rattle.reader.proofs.iterator.SkipAnswer as answer
 use Rattle.reader.proofs.iterator.skip_zeros as g
 use Rattle.reader.proofs.iterator.skip_zeros.Symbol as g-def

@@ -5,8 +5,8 @@ use contract.Monad.{factI}
 use denote.Triple.Table.{cited}
 use Rattle.reader.specs.Answer.{blockOutcomeOf}
 use Rattle.reader.specs.Bytes.{takeNBytes}
-use Rattle.reader.proofs.ShapeWith.{Core, of-shape}
-use Rattle.reader.proofs.AnswerTypes.{block-answers, numbers}
+use Rattle.reader.proofs.bytes.LentCallWith.{Core, of-shape}
+use Rattle.reader.proofs.bytes.AnswerTypes.{block-answers, numbers}
 use Rattle.reader.proofs.skip.BlockAnswer as answer
 use Rattle.reader.proofs.skip.take_n as g
 use Rattle.reader.proofs.skip.take_n.Symbol as g-def

@@ -14,7 +14,7 @@ use Rattle.reader.specs.Reading.{Reading, passedAt}
 use Rattle.reader.specs.State.{countOf}
 use Rattle.reader.specs.Answer.{Outcome}
 use Rattle.reader.specs.Calls.{refusalOf, peeked, peekOf, readByteIf, readIfOf}
-use Rattle.reader.proofs.Looking.{byte-there, byte-missing, none-there}
+use Rattle.reader.proofs.skip.Looks.{byte-there, byte-missing, none-there}
 
 module _ (s : List ℕ) (bytes : (i : ℕ) → i < length s → getD s i 0 < 256) where
   byte-small : (k b : ℕ) → byteAt s k ≡ some b → b < 256

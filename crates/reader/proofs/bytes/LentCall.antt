@@ -4,9 +4,9 @@
 --     stayed, vals, tells, goes     what `Close.antt`'s `concluded` asks of the parameters
 --     of-shape     f's theorem, from g's
 -- Assumes `Given`.
-use Rattle.reader.proofs.Walk.EL
-use Rattle.reader.proofs.Walk.LL
-use Rattle.reader.proofs.Walk.{_≡_, refl, ℕ, List, [], _∷_, URA, fullShare, named, erased, Val, vptr, SProp, ent, sep, emp, via, fst∗, snd∗, exE, id⊢, GName, Lft, Share, Fml, ftrue, flft, fobs, fbor, fat, Memory, Routine, Heap, Calls, Loops, WpFn, Tables, Atoms, sem, AllOutlive, Fun, fact, tablesOf, Given, ‵, raw, _⊛_, ⋆, some, later, _$_, _∵_, !, qed, by, move, keep, drop, use1, use2, split, join, pick, rewrite, fsplit, fsplit3, fjoin, fjoin3, feqI, suffices, frame, await, done, whole, sub, look-in, store-in, look, init, forget, stop, hop, fld, from, load, of-opd, and-then, no-more, assigns, land, returns, enter, alloc1, alloc0, params1, pass1, pass0, free1, free0, Body, FmC, fmOf, WpFn-mono, RattleType, owns, Is, shows, mem, cellAt, u8, RefT, NamedLft, MutRef, ptr-vals, mut-tells, Slot, plain, namedLft, ShrSlice, opens, closes, owned, peeks, facts, heard, nothing, spelt, Contract, Triple, calls-at, ensured, lasts, Vals, onEntry, Meets, tripleOf, entered, cited, says, Stays, stay-ref, stay-none, walkOf, goes-none, goes-ref, Walks, ends-at, walked, walk-meets, yes, _<_, Name, Fn, imm, mut, tyInt, tyRef, tyStruct, tcons, tnil, place, copy, deref, field, rvOpd, seq, assign, return, call, valueLocal, local, w8, w64, pointee, emp∗, monoL, comm∗, Clauses, atExit}
+use Rattle.reader.proofs.bytes.Logic.EL
+use Rattle.reader.proofs.bytes.Logic.LL
+use Rattle.reader.proofs.bytes.Logic.{_≡_, refl, ℕ, List, [], _∷_, URA, fullShare, named, erased, Val, vptr, SProp, ent, sep, emp, via, fst∗, snd∗, exE, id⊢, GName, Lft, Share, Fml, ftrue, flft, fobs, fbor, fat, Memory, Routine, Heap, Calls, Loops, WpFn, Tables, Atoms, sem, AllOutlive, Fun, fact, tablesOf, Given, ‵, raw, _⊛_, ⋆, some, later, _$_, _∵_, !, qed, by, move, keep, drop, use1, use2, split, join, pick, rewrite, fsplit, fsplit3, fjoin, fjoin3, feqI, suffices, frame, await, done, whole, sub, look-in, store-in, look, init, forget, stop, hop, fld, from, load, of-opd, and-then, no-more, assigns, land, returns, enter, alloc1, alloc0, params1, pass1, pass0, free1, free0, Body, FmC, fmOf, WpFn-mono, RattleType, owns, Is, shows, mem, cellAt, u8, RefT, NamedLft, MutRef, ptr-vals, mut-tells, Slot, plain, namedLft, ShrSlice, opens, closes, owned, peeks, facts, heard, nothing, spelt, Contract, Triple, calls-at, ensured, lasts, Vals, onEntry, Meets, tripleOf, entered, cited, says, Stays, stay-ref, stay-none, walkOf, goes-none, goes-ref, Walks, ends-at, walked, walk-meets, yes, _<_, Name, Fn, imm, mut, tyInt, tyRef, tyStruct, tcons, tnil, place, copy, deref, field, rvOpd, seq, assign, return, call, valueLocal, local, w8, w64, pointee, emp∗, monoL, comm∗, Clauses, atExit}
 use Rattle.reader.specs.Bytes.{atState}
 use Rattle.reader.specs.declared.bytes.Bytes.{Bytes}
 use Rattle.reader.specs.declared.state.Reader.{Reader}
@@ -16,8 +16,8 @@ use Rattle.reader.proofs.state.Reader as R
 use Rattle.reader.proofs.state.Reader.Laws as R′
 use Rattle.reader.proofs.state.State as S
 use Rattle.reader.proofs.state.State.Laws as S′
-use Rattle.reader.proofs.Spelt.{is-at, val-at}
-use Rattle.reader.proofs.Kept.{stateVal, mach, v, Own, wt, state-is, state-wt, slc-out, put-state}
+use Rattle.reader.proofs.bytes.MachineValues.{is-at, val-at}
+use Rattle.reader.proofs.bytes.Ownership.{stateVal, mach, v, Own, wt, state-is, state-wt, slc-out, put-state}
 use mir.Syntax.{Step as PlaceStep}
 use types.Kit.{Item, Step, step, prop, use0}
 use mir.Syntax.{Sym}
@@ -37,7 +37,7 @@ use prog.Model.{Model}
 use prog.Routine.{Env}
 use prog.Wp.{Closed}
 use contract.Running.{GhostRules, Running, givenOf, tables}
-use Rattle.reader.proofs.Close.{concluded}
+use Rattle.reader.proofs.bytes.Conclusion.{concluded}
 use contract.Lifetimes.{Lfts}
 use Rattle.reader.proofs.skip.next as g
 use Rattle.reader.proofs.bytes.Bytes.next as f

@@ -7,7 +7,7 @@ use native.Mathlib.Omega.{arith}
 use lib.ListN.{length, getD}
 use borrow.Author.Tests.{le-leb, lt-leb}
 use Rattle.reader.specs.Plain.{plainPeekOf}
-use Rattle.reader.proofs.Looking.{byte-there, byte-missing}
+use Rattle.reader.proofs.skip.Looks.{byte-there, byte-missing}
 
 module _ (s : List ℕ) (at : ℕ) where
   pub past-end : length s < at → plainPeekOf s at ≡ record { refusal = 16; byte = none; taken = 0; passed = 0; cursor = at }

@@ -17,9 +17,9 @@ use Rattle.reader.specs.Reading.{Reading, hasAnyFlag, mayPass, passedAt,
 use Rattle.reader.specs.State.{countSum, movedTo, countedBy}
 use Rattle.reader.specs.Answer.{numberOf, Outcome}
 use Rattle.reader.specs.Calls.{refusalWith, refusalOf, refused, peeked, peekOf, takenFrom, takeByte, nextOf}
-use Rattle.reader.proofs.Looking.{byte-missing, none-there}
+use Rattle.reader.proofs.skip.Looks.{byte-missing, none-there}
 use Rattle.reader.specs.Repeat.{repeated}
-use Rattle.reader.proofs.Admission.{within, peek-refused}
+use Rattle.reader.proofs.state.Refusals.{within, peek-refused}
 use Rattle.reader.proofs.Repeats.{repeated-stops, TakesOne}
 
 -- a byte lies within the buffer

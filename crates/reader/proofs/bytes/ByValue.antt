@@ -5,14 +5,14 @@
 --     asked            from what there is on entry: what the called function asks, and what the struct owns
 --     left             from what the struct owns: what the parameters own at exit
 -- Assumes `Given`.
-use Rattle.reader.proofs.Walk.LL
-use Rattle.reader.proofs.Walk.{List, [], _∷_, URA, named, Val, Lfts, namedLft, SProp, ent, sep, emp, Lft, Share, ftrue, flft, Heap, Atoms, sem, Given, ‵, raw, _⊛_, ⋆, _$_, _∵_, !, qed, move, drop, use1, use2, split, join, fsplit, fjoin, frame, done, RattleType, owns, Is, u8, NamedLft, ShrSlice, owned}
+use Rattle.reader.proofs.bytes.Logic.LL
+use Rattle.reader.proofs.bytes.Logic.{List, [], _∷_, URA, named, Val, Lfts, namedLft, SProp, ent, sep, emp, Lft, Share, ftrue, flft, Heap, Atoms, sem, Given, ‵, raw, _⊛_, ⋆, _$_, _∵_, !, qed, move, drop, use1, use2, split, join, fsplit, fjoin, frame, done, RattleType, owns, Is, u8, NamedLft, ShrSlice, owned}
 use Rattle.reader.specs.declared.bytes.Bytes.{Bytes}
 use Rattle.reader.proofs.bytes.Bytes as T
 use Rattle.reader.proofs.bytes.Bytes.Laws as T′
 use Rattle.reader.proofs.state.State as S
 use Rattle.reader.proofs.state.State.Laws as S′
-use Rattle.reader.proofs.Kept.{stateVal, mach, v, Own, slc-out}
+use Rattle.reader.proofs.bytes.Ownership.{stateVal, mach, v, Own, slc-out}
 use denote.RattleType.{Denots, Valss}
 use denote.Laws.{Tells}
 use types.Kit.{use0}

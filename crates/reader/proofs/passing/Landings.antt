@@ -14,7 +14,7 @@ use Rattle.word.specs.Bits.{bit}
 use Rattle.reader.specs.RuleData.{codeOf}
 use Rattle.reader.specs.Place.{isSeparator, byteAt, after, firstOther, separatorRun, nearest}
 use Rattle.reader.specs.Reading.{readingWith, neighbourOf, previous, following, mayPass, passedAt}
-use Rattle.reader.proofs.Places.{byte-here, no-byte, is-separator, runEnd, run-over}
+use Rattle.reader.proofs.passing.Places.{byte-here, no-byte, is-separator, runEnd, run-over}
 
 -- the neighbour of a place on one side, whose bytes these are, where it is wanted
 abbrev pub neighbourWhere : Syntax → Bool → List ℕ → Neighbour

@@ -2,8 +2,8 @@
 --     is-at        the relation holds at the value's own machine values
 --     val-at       a machine value at which it holds is the value's own
 -- Assumes nothing.
-use Rattle.reader.proofs.Walk.LL
-use Rattle.reader.proofs.Walk.{_≡_, ap, subst, List, [], _∷_, Val, Is, only, Declared, row}
+use Rattle.reader.proofs.bytes.Logic.LL
+use Rattle.reader.proofs.bytes.Logic.{_≡_, ap, subst, List, [], _∷_, Val, Is, only, Declared, row}
 
 module _ (T : Declared) (L : LL.Laws T) (d : T .D) where
   pub is-at : {vs : List Val} → Is (row T) d vs → Is (row T) d (LL.vals T L d)

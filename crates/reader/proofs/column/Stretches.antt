@@ -26,11 +26,11 @@ use Rattle.reader.specs.Calls.{refusalWith}
 use Rattle.reader.specs.Pairs.{hitsBefore, matchesOf, pairsOf}
 use Rattle.reader.specs.Column.{partFrom, boundOf, noTotals, addTotals, cellTotals, columnFrom, ColumnOutcome, columnOf}
 use Rattle.reader.specs.Ordinary.{Countable, Ordinary, Stretch, passing, digitsIn, ordinaryTotals}
-use Rattle.reader.proofs.Admission.{refusal-tells}
-use Rattle.reader.proofs.Places.{is-separator}
-use Rattle.reader.proofs.PairLaws.{at-most-one, pairs-below}
-use Rattle.reader.proofs.Ordinary.{ordinary-told}
-use Rattle.reader.proofs.ColumnLaws.{part-length, part-byte}
+use Rattle.reader.proofs.state.Refusals.{refusal-tells}
+use Rattle.reader.proofs.passing.Places.{is-separator}
+use Rattle.reader.proofs.pairs.Counts.{at-most-one, pairs-below}
+use Rattle.reader.proofs.column.OrdinaryCell.{ordinary-told}
+use Rattle.reader.proofs.column.Cells.{part-length, part-byte}
 
 -- a part, and the part behind it
 pub parts-join : (s : List ℕ) (start mid end : ℕ) → start ≤ mid → mid ≤ end → partFrom s start end ≡ partFrom s start mid ++ partFrom s mid end

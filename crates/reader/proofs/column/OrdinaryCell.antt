@@ -26,13 +26,13 @@ use Rattle.reader.specs.Calls.{refusalWith, nextAllOf}
 use Rattle.reader.specs.Pairs.{matchesOf, pairsOf}
 use Rattle.reader.specs.Column.{totalsOf}
 use Rattle.reader.specs.Ordinary.{Countable, Ordinary, nothingBefore, passing, digitsIn, ordinaryTotals}
-use Rattle.reader.proofs.Places.{is-separator, no-separator}
-use Rattle.reader.proofs.Landings.{stays-on-other, stays-behind, passes-behind}
-use Rattle.reader.proofs.RuleLaws.{aSeparator, later-looks-behind, single-stops}
-use Rattle.reader.proofs.Standing.{stateAt, counted-tells}
-use Rattle.reader.proofs.Running.{Running, running-starts, running-on, running-out}
-use Rattle.reader.proofs.PairLaws.{one-pair, no-pair}
-use Rattle.reader.proofs.ColumnLaws.{fresh-count}
+use Rattle.reader.proofs.passing.Places.{is-separator, no-separator}
+use Rattle.reader.proofs.passing.Landings.{stays-on-other, stays-behind, passes-behind}
+use Rattle.reader.proofs.rule.CommonLaws.{aSeparator, later-looks-behind, single-stops}
+use Rattle.reader.proofs.skip.LoopState.{stateAt, counted-tells}
+use Rattle.reader.proofs.skip.TakeLoop.{Running, running-starts, running-on, running-out}
+use Rattle.reader.proofs.pairs.Counts.{one-pair, no-pair}
+use Rattle.reader.proofs.column.Cells.{fresh-count}
 
 -- the digits from a place on
 digits-from : (radix : ℕ) (s : List ℕ) (at : ℕ) → at < length s

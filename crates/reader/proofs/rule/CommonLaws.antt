@@ -9,7 +9,7 @@ use Rattle.reader.specs.declared.rule.Neighbour.{Neighbour}
 use Rattle.reader.specs.Rule.{ruleOf, namesOf}
 use Rattle.word.specs.Bits.{bit}
 use Rattle.reader.specs.RuleData.{cellOf}
-use Rattle.reader.proofs.RuleTable.{same, every, everyCell, everyPair, cell-at, pair-at}
+use Rattle.reader.proofs.rule.Table.{same, every, everyCell, everyPair, cell-at, pair-at}
 
 -- a test passes for every cell with every two neighbours
 everyCase : (Flags → Bool → Neighbour → Neighbour → Bool) → Bool

@@ -18,7 +18,7 @@ use Rattle.reader.specs.History.{Call, peekBy, takeBy, readIfBy, zeroSki
 use Rattle.reader.specs.ByteTally.{NeverRefusedBy, traceFresh}
 use Rattle.reader.specs.RefusalKeeps.{PlaceFault, SpecialFault, OwnFault, Fault, ResultOrRefusal}
 use Rattle.reader.proofs.Demand1.{result-or-refusal}
-use Rattle.reader.proofs.Demand3.{Kept, kept-fresh, kept-on, own-word}
+use Rattle.reader.proofs.ByteTally.AnyReading.{Kept, kept-fresh, kept-on, own-word}
 
 alone-fails : (alone : Bool) (number : ℕ) → alone ≡ true → line number (not alone) ≡ number
 alone-fails alone number e = rw e

@@ -22,10 +22,10 @@ use Rattle.reader.specs.Calls.{refusalWith, peekOf, takenFrom, takeByte,
 use Rattle.reader.specs.ZeroSkip.{isZero, raised, zeroReadOf}
 use Rattle.reader.specs.Block.{blockRefusal, takeNOf, takeNPart}
 use Rattle.reader.specs.History.{Kind, aPeek, aTake, aRead, aZeroRead, aBlock, Step, byteTaken, stepOf, digitsIn, digitsCounted, countsFor}
-use Rattle.reader.proofs.Admission.{within, still-admitted}
-use Rattle.reader.proofs.ReadCases.{read-cases}
-use Rattle.reader.proofs.Takes.{byte-inside}
-use Rattle.reader.proofs.Peeking.{count-moved, Peeks, peeks}
+use Rattle.reader.proofs.state.Refusals.{within, still-admitted}
+use Rattle.reader.proofs.iterator.ReadCases.{read-cases}
+use Rattle.reader.proofs.skip.Takes.{byte-inside}
+use Rattle.reader.proofs.ByteTally.Peek.{count-moved, Peeks, peeks}
 
 -- How a step stands to the state before it and the state after it.
 pub record Moves (m : Reader → Reading) (s : List ℕ) (st : State) (e : Step) (then : State) : Type 0 where

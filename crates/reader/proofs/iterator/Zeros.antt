@@ -12,11 +12,11 @@ use Rattle.reader.specs.Reading.{Reading}
 use Rattle.reader.specs.Answer.{numberOf}
 use Rattle.reader.specs.Repeat.{repeated}
 use Rattle.reader.specs.ZeroSkip.{skipRefusal, isZero, raised, zeroReadOf, skipped, refusedSkip, skipZerosOf}
-use Rattle.reader.proofs.Admission.{refusal-tells}
-use Rattle.reader.proofs.Looking.{none-there}
-use Rattle.reader.proofs.ReadCases.{read-cases}
+use Rattle.reader.proofs.state.Refusals.{refusal-tells}
+use Rattle.reader.proofs.skip.Looks.{none-there}
+use Rattle.reader.proofs.iterator.ReadCases.{read-cases}
 use Rattle.reader.proofs.Repeats.{TakesOne}
-use Rattle.reader.proofs.Takes.{counted-stays, peek-byte}
+use Rattle.reader.proofs.skip.Takes.{counted-stays, peek-byte}
 
 -- a read of a zero skip with a byte took one
 pub zero-takes-one : (m : Reading) (s : List ℕ) (st : State) (r : Reader) (b : ℕ) → zeroReadOf m s r st .byte ≡ some b → TakesOne s st (zeroReadOf m s r st)

@@ -18,13 +18,13 @@ use Rattle.reader.specs.State.{countOf}
 use Rattle.reader.specs.Answer.{Outcome}
 use Rattle.reader.specs.Calls.{peekOf, readIfOf}
 use Rattle.reader.specs.ZeroSkip.{skipRefusal, isZero, zeroReadOf, skipped, skipZerosOf}
-use Rattle.reader.proofs.Places.{no-separator}
-use Rattle.reader.proofs.Landings.{landingOf, stays-on-other}
-use Rattle.reader.proofs.Looking.{byte-there, byte-missing}
-use Rattle.reader.proofs.Admission.{skip-within, skip-admits}
+use Rattle.reader.proofs.passing.Places.{no-separator}
+use Rattle.reader.proofs.passing.Landings.{landingOf, stays-on-other}
+use Rattle.reader.proofs.skip.Looks.{byte-there, byte-missing}
+use Rattle.reader.proofs.state.Refusals.{skip-within, skip-admits}
 use Rattle.reader.proofs.Repeats.{Repeating, repeating-starts, repeating-ends, repeating-goes-on}
-use Rattle.reader.proofs.Standing.{stateAt, own-count, at-cursor, past-byte, counts-one, counted-tells, Standing, standing-starts, standing-counts, standing-on, peeks-at}
-use Rattle.reader.proofs.Zeros.{zero-takes-one, skip-admitted}
+use Rattle.reader.proofs.skip.LoopState.{stateAt, own-count, at-cursor, past-byte, counts-one, counted-tells, Standing, standing-starts, standing-counts, standing-on, peeks-at}
+use Rattle.reader.proofs.iterator.Zeros.{zero-takes-one, skip-admitted}
 
 -- there is a byte at the place, and it is `0`
 abbrev zeroAt : List ℕ → ℕ → Bool

@@ -15,12 +15,12 @@ use Rattle.reader.specs.Reading.{Reading, hasAnyFlag, mayPass, passedAt}
 use Rattle.reader.specs.State.{isCounted, countOf, movedTo, countedBy, withCount}
 use Rattle.reader.specs.Answer.{Outcome}
 use Rattle.reader.specs.Calls.{refusalWith, takenFrom, nextOf}
-use Rattle.reader.proofs.Looking.{byte-there, byte-missing}
-use Rattle.reader.proofs.Admission.{within}
+use Rattle.reader.proofs.skip.Looks.{byte-there, byte-missing}
+use Rattle.reader.proofs.state.Refusals.{within}
 use Rattle.reader.specs.Repeat.{repeated}
-use Rattle.reader.proofs.Standing.{stateAt, own-count, past-byte, Standing, standing-starts, standing-on, peeks-at}
+use Rattle.reader.proofs.skip.LoopState.{stateAt, own-count, past-byte, Standing, standing-starts, standing-on, peeks-at}
 use Rattle.reader.proofs.Repeats.{Repeating, repeating-starts, repeating-ends, repeating-goes-on}
-use Rattle.reader.proofs.Takes.{next-takes-one}
+use Rattle.reader.proofs.skip.Takes.{next-takes-one}
 
 -- Where the reader counts (t), one more is counted; a count of the special reader changes nothing.
 counts-on : (st : State) (r : Reader) (at count : ℕ) (flagged digit : Bool)

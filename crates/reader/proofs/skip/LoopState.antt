@@ -13,7 +13,7 @@ use Rattle.reader.specs.Place.{byteAt}
 use Rattle.reader.specs.Reading.{Reading, passedAt}
 use Rattle.reader.specs.State.{isCounted, countOf, countSum, movedTo, countedBy, withCount}
 use Rattle.reader.specs.Calls.{refusalWith, peeked, peekOf}
-use Rattle.reader.proofs.Admission.{still-admitted, peek-admitted}
+use Rattle.reader.proofs.state.Refusals.{still-admitted, peek-admitted}
 
 -- the state at a place with a count
 abbrev pub stateAt : State → Reader → ℕ → ℕ → State

@@ -17,7 +17,7 @@ use Rattle.reader.specs.Repeat.{summed, untilNone}
 use Rattle.reader.specs.ZeroSkip.{zeroReadOf}
 use Rattle.reader.specs.History.{aZeroRead, Step, stepOf, zeroSteps, joined, stepCount}
 use Rattle.reader.specs.ByteTally.{RunAllowed, RunsAllowed}
-use Rattle.reader.proofs.Steps.{Moves, zero-step, zero-counts}
+use Rattle.reader.proofs.ByteTally.Steps.{Moves, zero-step, zero-counts}
 
 -- A state with the steps that led to it from a fresh one.
 pub record Tallied (m : Reader → Reading) (s : List ℕ) (sheet : Sheet) (st : State) (steps : List Step) : Type 0 where

@@ -17,9 +17,9 @@ use Rattle.reader.specs.Repeat.{untilNone, repeated}
 use Rattle.reader.specs.ZeroSkip.{zeroReadOf, zeroReadsOf, skipRefusal, skipped, refusedSkip, skipZerosOf}
 use Rattle.reader.specs.Block.{takeNOf, takeNPart}
 use Rattle.reader.specs.History.{Call, peekBy, takeBy, readIfBy, zeroSkipBy, blockBy, Answered, skipAnswered, readsMade, answerBy, takenIn, passedIn, returned, aPeek, aTake, aRead, aBlock, Step, stepOf, withSteps}
-use Rattle.reader.proofs.Peeking.{peeks}
-use Rattle.reader.proofs.Steps.{Moves, peek-step, take-step, read-step, block-step, take-counts, read-counts, block-counts}
-use Rattle.reader.proofs.Tallies.{Tallied, tallied-on, skipping}
+use Rattle.reader.proofs.ByteTally.Peek.{peeks}
+use Rattle.reader.proofs.ByteTally.Steps.{Moves, peek-step, take-step, read-step, block-step, take-counts, read-counts, block-counts}
+use Rattle.reader.proofs.ByteTally.Invariant.{Tallied, tallied-on, skipping}
 
 -- a zero skip makes its reads, or it is refused and makes none
 pub skip-cases :

@@ -4,7 +4,7 @@
 --     back         the two tokens, what was kept, and the reference's last value y  ⊢ ⇛ (the cell, what y owns, and κ's token)
 --     within       κ outlives the loan's lifetime
 -- Assumes `Given`.
-use Rattle.reader.proofs.Walk.{_≡_, ℕ, [], _∷_, URA, fullShare, PosShare·left, PosShare·right, Ty, Lifetime, rawTy, Val, vptr, SProp, ent, sep, ex, Lft, GName, Share, ftrue, flft, fdead, flent, fres, fat, Heap, Atoms, sem, _⊑_, meet-⊑-right, Given, Item, ‵, raw, _⊛_, some, later, mean, ⋆, _$_, _∵_, !, qed, by, move, drop, use1, use2, use3, split, pick, await, updating, at-once, show, done, Body, lft-new, RattleType, partAt, mem, lone, RefT, MutRef, lends-ref, ref-back, One, part-out-at, part-in-at, Rest, within-token, within-end}
+use Rattle.reader.proofs.bytes.Logic.{_≡_, ℕ, [], _∷_, URA, fullShare, PosShare·left, PosShare·right, Ty, Lifetime, rawTy, Val, vptr, SProp, ent, sep, ex, Lft, GName, Share, ftrue, flft, fdead, flent, fres, fat, Heap, Atoms, sem, _⊑_, meet-⊑-right, Given, Item, ‵, raw, _⊛_, some, later, mean, ⋆, _$_, _∵_, !, qed, by, move, drop, use1, use2, use3, split, pick, await, updating, at-once, show, done, Body, lft-new, RattleType, partAt, mem, lone, RefT, MutRef, lends-ref, ref-back, One, part-out-at, part-in-at, Rest, within-token, within-end}
 
 pub within : (ν : ℕ) (κ : Lft) → (ν ∷ κ) ⊑ κ
 within ν κ = meet-⊑-right (ν ∷ []) κ

@@ -6,8 +6,8 @@
 --     slc-out      what d owns gives what its slice owns, and is kept
 --     put-state    what d owns is, beside the relation of another state, what d at that state owns
 -- Assumes `Given`.
-use Rattle.reader.proofs.Walk.LL
-use Rattle.reader.proofs.Walk.{_≡_, refl, [], _∷_, Holds, length, URA, erased, Val, WT, hasTy, ent, sep, Fml, Heap, Atoms, sem, Given, ‵, _⊛_, given, _$_, _∵_, !, qed, by, move, drop, use1, split, learn, frame, done, RattleType, Is, u8, NamedLft, sliceVal, ShrSlice, owned, Declared, all-own, ownAt, rest, own-open, own-out, own-put, Values}
+use Rattle.reader.proofs.bytes.Logic.LL
+use Rattle.reader.proofs.bytes.Logic.{_≡_, refl, [], _∷_, Holds, length, URA, erased, Val, WT, hasTy, ent, sep, Fml, Heap, Atoms, sem, Given, ‵, _⊛_, given, _$_, _∵_, !, qed, by, move, drop, use1, split, learn, frame, done, RattleType, Is, u8, NamedLft, sliceVal, ShrSlice, owned, Declared, all-own, ownAt, rest, own-open, own-out, own-put, Values}
 use Rattle.reader.specs.Bytes.{atState}
 use Rattle.reader.specs.declared.state.State.{State}
 use Rattle.reader.specs.declared.bytes.Bytes.{Bytes}

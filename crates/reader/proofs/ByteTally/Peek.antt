@@ -17,9 +17,9 @@ use Rattle.reader.specs.Reading.{Reading, mayPass, passedAt}
 use Rattle.reader.specs.State.{countOf, countSum, movedTo}
 use Rattle.reader.specs.Answer.{Outcome}
 use Rattle.reader.specs.Calls.{refusalOf, refused, peeked, peekOf}
-use Rattle.reader.proofs.Admission.{peek-admitted}
-use Rattle.reader.proofs.Takes.{passed-fits}
-use Rattle.reader.proofs.Settling.{passes-only, passes-by-rule}
+use Rattle.reader.proofs.state.Refusals.{peek-admitted}
+use Rattle.reader.proofs.skip.Takes.{passed-fits}
+use Rattle.reader.proofs.ByteTally.Settling.{passes-only, passes-by-rule}
 
 -- a move leaves the counts
 pub count-moved : (st : State) (place : ℕ) (r : Reader) → countOf (movedTo st place) r ≡ countOf st r

@@ -4,10 +4,10 @@ use Rattle.reader.specs.declared.skip.Answer.{Answer}
 use Rattle.reader.specs.declared.iterator.SkipAnswer.{SkipAnswer}
 use Rattle.reader.specs.declared.iterator.ReadAnswer.{ReadAnswer}
 use Rattle.reader.specs.declared.skip.BlockAnswer.{BlockAnswer}
-use Rattle.reader.proofs.Walk.LL
-use Rattle.reader.proofs.Walk.{tyInt, w64, vint, usize, uint-tells, uint-makes}
-use Rattle.reader.proofs.Shape.{AnswerType}
-use Rattle.reader.proofs.ShapeWith.{ArgType}
+use Rattle.reader.proofs.bytes.Logic.LL
+use Rattle.reader.proofs.bytes.Logic.{tyInt, w64, vint, usize, uint-tells, uint-makes}
+use Rattle.reader.proofs.bytes.LentCall.{AnswerType}
+use Rattle.reader.proofs.bytes.LentCallWith.{ArgType}
 use Rattle.word.proofs.byte_set.ByteSet as set
 use Rattle.word.proofs.byte_set.ByteSet.Laws as set′
 use Rattle.reader.proofs.iterator.ReadAnswer as read

@@ -2,9 +2,9 @@
 --     asks         the tokens and the reference  ⊢  its pre
 --     gives        its post and what was kept  ⊢ ⇛ (the local's cell, what the new struct owns, and κ's token; and the answer's relation at the machine value returned)
 -- Assumes `Given`.
-use Rattle.reader.proofs.Walk.EL
-use Rattle.reader.proofs.Walk.LL
-use Rattle.reader.proofs.Walk.{_≡_, refl, sym, subst, ℕ, List, [], _∷_, URA, fullShare, PosShare·left, PosShare·right, Ty, named, erased, Val, vptr, SProp, ent, sep, ex, guard, id⊢, Lft, GName, Share, Fml, ftrue, flft, fres, fat, Memory, Routine, Heap, Atoms, sem, Fun, fact, Given, Item, ‵, raw, _⊛_, given, some, later, mean, ⋆, _$_, _∵_, !, qed, by, move, drop, use1, use2, use3, split, join, pick, rewrite, check, fsplit, fjoin, frame, await, updating, at-once, show, done, RattleType, Is, shows, RefT, NamedLft, MutRef, owned, facts, heard, nothing, Contract, ensured, lasts, tripleOf}
+use Rattle.reader.proofs.bytes.Logic.EL
+use Rattle.reader.proofs.bytes.Logic.LL
+use Rattle.reader.proofs.bytes.Logic.{_≡_, refl, sym, subst, ℕ, List, [], _∷_, URA, fullShare, PosShare·left, PosShare·right, Ty, named, erased, Val, vptr, SProp, ent, sep, ex, guard, id⊢, Lft, GName, Share, Fml, ftrue, flft, fres, fat, Memory, Routine, Heap, Atoms, sem, Fun, fact, Given, Item, ‵, raw, _⊛_, given, some, later, mean, ⋆, _$_, _∵_, !, qed, by, move, drop, use1, use2, use3, split, join, pick, rewrite, check, fsplit, fjoin, frame, await, updating, at-once, show, done, RattleType, Is, shows, RefT, NamedLft, MutRef, owned, facts, heard, nothing, Contract, ensured, lasts, tripleOf}
 use Rattle.reader.specs.Answer.{outcomeOf}
 use Rattle.reader.specs.Bytes.{nextAllBytes}
 use Rattle.reader.specs.declared.bytes.Bytes.{Bytes}
@@ -16,7 +16,7 @@ use Rattle.reader.proofs.state.Reader as R
 use Rattle.reader.proofs.state.Reader.Laws as R′
 use Rattle.reader.proofs.skip.Report as To
 use Rattle.reader.proofs.skip.Report.Laws as To′
-use Rattle.reader.proofs.Local as local
+use Rattle.reader.proofs.bytes.LocalValue as local
 use Rattle.reader.proofs.bytes.Bytes.next_all as next
 
 module _ {M : Type 1} (𝓤 : URA M) (H : Heap 𝓤) (A : Atoms 𝓤) (mem : Memory → SProp 𝓤) (run : Routine → Fun 𝓤) where

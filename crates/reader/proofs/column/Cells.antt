@@ -24,7 +24,7 @@ use Rattle.reader.specs.Calls.{nextAllOf, ownCount}
 use Rattle.reader.specs.Pairs.{pairsOf}
 use Rattle.reader.specs.Column.{noTotals, cellTotals, totalsOf, partFrom}
 use Rattle.reader.specs.Ordinary.{Countable, Ordinary, fillsOf, isQuick, passing, doubles, beforeDigits, digitsIn, ordinaryTotals}
-use Rattle.reader.proofs.Places.{no-separator}
+use Rattle.reader.proofs.passing.Places.{no-separator}
 
 -- A part of a slice: its length, its bytes, and when it is an ordinary cell.
 module _ (s : List ℕ) (start end : ℕ) (ordered : start ≤ end) (inside : end ≤ length s) where

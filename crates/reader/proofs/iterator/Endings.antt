@@ -11,8 +11,8 @@ use Rattle.reader.specs.Calls.{nextOf, nextAllOf}
 use Rattle.reader.specs.Repeat.{repeated}
 use Rattle.reader.specs.ZeroSkip.{zeroReadOf}
 use Rattle.reader.proofs.Repeats.{repeated-ends}
-use Rattle.reader.proofs.Takes.{next-takes-one}
-use Rattle.reader.proofs.Zeros.{zero-takes-one}
+use Rattle.reader.proofs.skip.Takes.{next-takes-one}
+use Rattle.reader.proofs.iterator.Zeros.{zero-takes-one}
 
 module _ (m : Reading) (s : List ℕ) (st : State) (r : Reader) where
   pub takes-end-all : nextAllOf m s st r .byte ≡ none

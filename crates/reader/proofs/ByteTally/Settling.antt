@@ -15,9 +15,9 @@ use lib.Seq.{drop-cons}
 use Rattle.reader.specs.declared.rule.Neighbour.{Neighbour}
 use Rattle.reader.specs.Place.{isSeparator, byteAt, before, after, firstOther, separatorRun, nearest}
 use Rattle.reader.specs.Reading.{Reading, neighbourOf, previous, following, passesByte, mayPass, passedAt}
-use Rattle.reader.proofs.Looking.{byte-there}
-use Rattle.reader.proofs.Places.{before-next, run-byte}
-use Rattle.reader.proofs.Takes.{byte-inside}
+use Rattle.reader.proofs.skip.Looks.{byte-there}
+use Rattle.reader.proofs.passing.Places.{before-next, run-byte}
+use Rattle.reader.proofs.skip.Takes.{byte-inside}
 
 pub and-left : (a b : Bool) → (a && b) ≡ true → a ≡ true
 and-left true b e = refl
