@@ -18,7 +18,8 @@ use Rattle.reader.specs.Calls.{lineConsecutive}
 use Rattle.reader.specs.History.{Call}
 use Rattle.reader.specs.ByteTally.{NeverRefusedBy, traceFresh, ByteTally}
 use Rattle.reader.proofs.rule.CommonLaws.{aSeparator, settles}
-use Rattle.reader.proofs.ByteTally.Settling.{separator-is, Settles}
+use Rattle.reader.proofs.passing.Passed.{separator-is}
+use Rattle.reader.proofs.ByteTally.Settling.{Settles}
 use Rattle.reader.proofs.ByteTally.AnyReading.{byte-tally}
 use Rattle.reader.proofs.ByteTally.Refusals.{never-refused-by}
 

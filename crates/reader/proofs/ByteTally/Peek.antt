@@ -1,8 +1,8 @@
 -- A peek from any state, refused or not: it moves over what it passed, which is separators where its rule holds. Assumes nothing.
-use mathlib.Core.Path.{_≡_, _∙_, refl, sym, ap}
-use mathlib.Core.Bool.{Bool, true, false, cond}
-use mathlib.Core.List.{List, [], _∷_}
-use mathlib.Core.Option.{Option, some, none}
+use mathlib.Core.Path.{_≡_, refl}
+use mathlib.Core.Bool.{Bool, true, false}
+use mathlib.Core.List.{List}
+use mathlib.Core.Option.{some}
 use Prim.Native.Nat.{ℕ, _+_, _<_, _≤_}
 use native.Mathlib.Nat.{add-zero}
 use native.Mathlib.Omega.{arith}
@@ -10,24 +10,14 @@ use borrow.Author.Tests.{eqb-true}
 use lib.Dec.{eqb}
 use lib.ListN.{length, take, drop, replicate}
 use Rattle.reader.specs.declared.state.Reader.{Reader}
-use Rattle.reader.specs.declared.state.Reader.the-variants.{Integer, Fraction, Exponent, Special}
 use Rattle.reader.specs.declared.state.State.{State}
 use Rattle.reader.specs.Place.{byteAt}
-use Rattle.reader.specs.Reading.{Reading, mayPass, passedAt}
+use Rattle.reader.specs.Reading.{Reading, mayPass}
 use Rattle.reader.specs.State.{countOf, countSum, movedTo}
 use Rattle.reader.specs.Answer.{Outcome}
 use Rattle.reader.specs.Calls.{refusalOf, refused, peeked, peekOf}
 use Rattle.reader.proofs.state.Refusals.{peek-admitted}
-use Rattle.reader.proofs.skip.Takes.{passed-fits}
-use Rattle.reader.proofs.ByteTally.Settling.{passes-only, passes-by-rule}
-
--- a move leaves the counts
-pub count-moved : (st : State) (place : ℕ) (r : Reader) → countOf (movedTo st place) r ≡ countOf st r
-unfolding countOf movedTo
-count-moved st place Integer = refl
-count-moved st place Fraction = refl
-count-moved st place Exponent = refl
-count-moved st place Special = refl
+use Rattle.reader.proofs.passing.Passed.{passed-fits, passes-only, passes-by-rule}
 
 -- how an outcome stands to the state it came from, where the call took nothing
 pub record Peeks (m : Reading) (s : List ℕ) (st : State) (r : Reader) (o : Outcome) : Type 0 where

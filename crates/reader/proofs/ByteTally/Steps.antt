@@ -1,31 +1,29 @@
 -- Each call moves the state by its step of the history: over any reading, refused calls included. Assumes nothing.
-use mathlib.Core.Path.{_≡_, _∙_, refl, sym, ap}
+use mathlib.Core.Path.{_≡_, _∙_, refl, sym}
 use mathlib.Core.Bool.{Bool, true, false, cond, _&&_}
 use mathlib.Core.List.{List, [], _∷_, head?}
 use mathlib.Core.Option.{Option, some, none}
-use Prim.Native.Nat.{ℕ, zero, suc, _+_, _-_, _<_, _≤_, min}
+use Prim.Native.Nat.{ℕ, _+_, _-_, _<_, _≤_, min}
 use native.Mathlib.Nat.{add-zero}
 use native.Mathlib.Omega.{arith}
-use borrow.Author.Tests.{eqb-true}
 use lib.Dec.{eqb}
 use lib.ListN.{length, take, drop, replicate, length-drop}
 use lib.Seq.{length-take-le}
 use Rattle.reader.specs.declared.state.Reader.{Reader}
-use Rattle.reader.specs.declared.state.Reader.the-variants.{Integer, Fraction, Exponent, Special}
 use Rattle.reader.specs.declared.state.State.{State}
 use Rattle.reader.specs.declared.rule.Flags.{Flags}
-use Rattle.reader.specs.Place.{byteAt}
 use Rattle.reader.specs.Reading.{Reading, hasAnyFlag, mayPass}
 use Rattle.reader.specs.State.{sheetOf, countOf, countSum, movedTo, countedBy}
 use Rattle.reader.specs.Answer.{Outcome}
 use Rattle.reader.specs.Calls.{refusalWith, peekOf, takenFrom, takeByte, nextOf, readIfOf}
 use Rattle.reader.specs.ZeroSkip.{isZero, raised, zeroReadOf}
 use Rattle.reader.specs.Block.{blockRefusal, takeNOf, takeNPart}
-use Rattle.reader.specs.History.{Kind, aPeek, aTake, aRead, aZeroRead, aBlock, Step, byteTaken, stepOf, digitsIn, digitsCounted, countsFor}
+use Rattle.reader.specs.History.{Kind, aPeek, aTake, aRead, aZeroRead, aBlock, Step, byteTaken, stepOf, digitsCounted, countsFor}
 use Rattle.reader.proofs.state.Refusals.{within, still-admitted}
-use Rattle.reader.proofs.iterator.ReadCases.{read-cases}
-use Rattle.reader.proofs.skip.Takes.{byte-inside}
-use Rattle.reader.proofs.ByteTally.Peek.{count-moved, Peeks, peeks}
+use Rattle.reader.proofs.iterator.ConditionalReads.{read-cases}
+use Rattle.reader.proofs.passing.Places.{byte-inside}
+use Rattle.reader.proofs.state.Updates.{counted-stays, counted-sheet, count-moved, counted-adds, counted-sum}
+use Rattle.reader.proofs.ByteTally.Peek.{Peeks, peeks}
 
 -- How a step stands to the state before it and the state after it.
 pub record Moves (m : Reader → Reading) (s : List ℕ) (st : State) (e : Step) (then : State) : Type 0 where
@@ -59,39 +57,6 @@ counted-none m aRead = refl
 counted-none m aZeroRead = refl
 counted-none m aBlock = refl
 
-counted-adds : (st : State) (r q : Reader) → countOf (countedBy st r) q ≡ countOf st q + cond (countsFor q r) 1 0
-unfolding countOf countedBy
-counted-adds st Integer Integer = refl
-counted-adds st Integer Fraction = sym (add-zero (st .fraction .0))
-counted-adds st Integer Exponent = sym (add-zero (st .exponent .0))
-counted-adds st Integer Special = refl
-counted-adds st Fraction Integer = sym (add-zero (st .integer .0))
-counted-adds st Fraction Fraction = refl
-counted-adds st Fraction Exponent = sym (add-zero (st .exponent .0))
-counted-adds st Fraction Special = refl
-counted-adds st Exponent Integer = sym (add-zero (st .integer .0))
-counted-adds st Exponent Fraction = sym (add-zero (st .fraction .0))
-counted-adds st Exponent Exponent = refl
-counted-adds st Exponent Special = refl
-counted-adds st Special Integer = sym (add-zero (st .integer .0))
-counted-adds st Special Fraction = sym (add-zero (st .fraction .0))
-counted-adds st Special Exponent = sym (add-zero (st .exponent .0))
-counted-adds st Special Special = refl
-
-counted-sum : (st : State) (r : Reader) → countSum (countedBy st r) ≤ countSum st + 1
-unfolding countedBy
-counted-sum st Integer = omega arith
-counted-sum st Fraction = omega arith
-counted-sum st Exponent = omega arith
-counted-sum st Special = omega arith
-
-counted-keeps : (st : State) (r : Reader) → (countedBy st r .cursor ≡ st .cursor) × (sheetOf (countedBy st r) ≡ sheetOf st)
-unfolding countedBy
-counted-keeps st Integer = (refl, refl)
-counted-keeps st Fraction = (refl, refl)
-counted-keeps st Exponent = (refl, refl)
-counted-keeps st Special = (refl, refl)
-
 -- A state behind one byte that the reader r took as a step of this kind.
 record Behind (m : Reader → Reading) (st : State) (r : Reader) (kind : Kind) (b : ℕ) (then : State) : Type 0 where
   cursor : then .cursor ≡ st .cursor + 1
@@ -108,10 +73,10 @@ module _ (m : Reader → Reading) (st : State) (r : Reader) (b : ℕ) where
   unfolding movedTo
   counted-behind kind one =
       record {
-        cursor = counted-keeps next r .0;
+        cursor = counted-stays next r;
         counts = λ q. counted-adds next r q ∙ rw (one, count-moved st (st .cursor + 1) q);
         sums = counted-sum next r;
-        word = counted-keeps next r .1;
+        word = counted-sheet next r;
       }
 
   moved-behind : (kind : Kind) → digitsCounted (m r) kind (b ∷ []) ≡ 0 → Behind m st r kind b next

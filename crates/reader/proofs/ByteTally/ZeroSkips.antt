@@ -19,9 +19,9 @@ use Rattle.reader.specs.Repeat.{summed, ifByte, untilNone, repeated}
 use Rattle.reader.specs.ZeroSkip.{isZero, raised, zeroReadOf, zeroReadsOf, skipRefusal, skipped, skipZerosOf}
 use Rattle.reader.specs.History.{Call, peekBy, takeBy, readIfBy, zeroSkipBy, blockBy, Answered, readsMade, answerBy, aZeroRead, byteTaken, stepOf, zeroSteps, stepsOf, Step, zerosTold, countsFor, historyCount, stepCount}
 use Rattle.reader.specs.ByteTally.{CountsAgree, readsThatTook, takenByReads, passedByReads, ZerosThenNone, SkipTold, AnswerTold}
-use Rattle.reader.proofs.skip.Looks.{none-there}
+use Rattle.reader.proofs.passing.Places.{none-there}
 use Rattle.reader.proofs.state.Refusals.{skip-admits, peek-admitted}
-use Rattle.reader.proofs.iterator.ReadCases.{read-cases}
+use Rattle.reader.proofs.iterator.ConditionalReads.{read-cases}
 use Rattle.reader.proofs.iterator.Zeros.{zero-takes-one}
 use Rattle.reader.proofs.ByteTally.Steps.{moves-clear, zero-step, zero-counts}
 use Rattle.reader.proofs.ByteTally.Calls.{skip-cases}

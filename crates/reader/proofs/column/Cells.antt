@@ -1,5 +1,5 @@
 -- Laws of the cells of a column: when a cell is ordinary, when a buffer is quick, and what a stretch and a cell add. Assumes nothing.
-use mathlib.Core.Path.{_≡_, refl, sym, ap, _∙_}
+use mathlib.Core.Path.{_≡_, refl, ap}
 use mathlib.Core.Bool.{Bool, true, false, cond, not, _&&_, _||_, and-eq-true-iff}
 use mathlib.Core.List.{List, [], _∷_}
 use Prim.Native.Nat.{ℕ, zero, suc, _+_, _-_, _≤_, _<_}
@@ -12,19 +12,18 @@ use lib.Seq.{getD-take, getD-drop}
 use Rattle.word.specs.Digit.{isDigit}
 use Rattle.word.specs.declared.format_flags.Format.{Format}
 use Rattle.reader.specs.declared.state.Reader.{Reader}
-use Rattle.reader.specs.declared.state.Reader.the-variants.{Integer, Fraction, Exponent, Special}
-use Rattle.reader.specs.declared.state.State.{State}
 use Rattle.reader.specs.declared.passing.Syntax.{Syntax}
 use Rattle.reader.specs.declared.skip.TakeSums.{TakeSums}
 use Rattle.reader.specs.declared.column.Totals.{Totals}
-use Rattle.reader.specs.State.{freshOf, isCounted, movedTo, countOf, withCount}
-use Rattle.reader.specs.Reading.{Reading, hasAnyFlag}
+use Rattle.reader.specs.State.{freshOf, movedTo}
+use Rattle.reader.specs.Reading.{Reading}
 use Rattle.reader.specs.Answer.{sumsOutcome}
 use Rattle.reader.specs.Calls.{nextAllOf, ownCount}
 use Rattle.reader.specs.Pairs.{pairsOf}
 use Rattle.reader.specs.Column.{noTotals, cellTotals, totalsOf, partFrom}
 use Rattle.reader.specs.Ordinary.{Countable, Ordinary, fillsOf, isQuick, passing, doubles, beforeDigits, digitsIn, ordinaryTotals}
 use Rattle.reader.proofs.passing.Places.{no-separator}
+use Rattle.reader.proofs.state.Updates.{given-count}
 
 -- A part of a slice: its length, its bytes, and when it is an ordinary cell.
 module _ (s : List ℕ) (start end : ℕ) (ordered : start ≤ end) (inside : end ≤ length s) where
@@ -122,29 +121,6 @@ pub stretch-told :
 stretch-told x s passed behind digits first passes counts filled begins total =
     rw (passes, total, counts, begins, first-and-behind x s filled)
 
--- nothing is counted in a fresh state
-pub fresh-count : (f : Format) (r : Reader) → 0 ≡ countOf (freshOf f) r
-unfolding countOf
-fresh-count f Integer = refl
-fresh-count f Fraction = refl
-fresh-count f Exponent = refl
-fresh-count f Special = refl
-
--- the count of a reader to which one is given
-own-count : (st : State) (r : Reader) (n : ℕ) → countOf (withCount st r n) r ≡ ownCount r n
-unfolding countOf withCount
-own-count st Integer n = refl
-own-count st Fraction n = refl
-own-count st Exponent n = refl
-own-count st Special n = refl
-
--- a reader's own count is at most the count that it is told
-pub counted-at-most : (r : Reader) (n : ℕ) → ownCount r n ≤ n
-counted-at-most Integer n = omega arith
-counted-at-most Fraction n = omega arith
-counted-at-most Exponent n = omega arith
-counted-at-most Special n = omega arith
-
 -- what a cell adds is what its run tells
 pub cell-told :
     (m : Reading) (s : List ℕ) (f : Format) (r : Reader) (run : TakeSums) (digits : ℕ)
@@ -153,4 +129,4 @@ pub cell-told :
 cell-told m s f r run digits report own =
     let whole : run .at - 0 ≡ run .at = omega arith in
     let known : totalsOf r (sumsOutcome (freshOf f) r run) ≡ cellTotals m f r s = ap (totalsOf r) report in
-    rw own (rw (whole, own-count (movedTo (freshOf f) (run .at)) r (run .count)) at known)
+    rw own (rw (whole, given-count (movedTo (freshOf f) (run .at)) r (run .count)) at known)

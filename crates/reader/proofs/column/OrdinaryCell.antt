@@ -1,9 +1,9 @@
 -- An ordinary cell, taken to its end from a fresh state, adds what its pairs tell: behind its first digit each separator is judged by
 -- the byte behind it alone, and no two are passed together. Assumes nothing.
 use mathlib.Core.Path.{_≡_, _∙_, refl, sym, ap}
-use mathlib.Core.Bool.{Bool, true, false, cond, not, _&&_, _||_}
-use mathlib.Core.List.{List, [], _∷_, head?}
-use mathlib.Core.Option.{Option, some, none}
+use mathlib.Core.Bool.{Bool, true, false, cond, _&&_}
+use mathlib.Core.List.{List}
+use mathlib.Core.Option.{some, none}
 use Prim.Native.Nat.{ℕ, zero, suc, _+_, _-_, _<_, _≤_}
 use native.Mathlib.Numerals.{add-one}
 use native.Mathlib.Omega.{arith}
@@ -16,9 +16,8 @@ use Rattle.word.specs.declared.format_flags.Format.{Format}
 use Rattle.reader.specs.declared.state.Reader.{Reader}
 use Rattle.reader.specs.declared.state.State.{State}
 use Rattle.reader.specs.declared.passing.Syntax.{Syntax}
-use Rattle.reader.specs.declared.pairs.Pairs.{Pairs}
 use Rattle.reader.specs.Rule.{ruleOf}
-use Rattle.reader.specs.Place.{isSeparator, firstOther, separatorRun, nearest, after}
+use Rattle.reader.specs.Place.{isSeparator, separatorRun, nearest, after}
 use Rattle.reader.specs.Reading.{readingWith, hasAnyFlag, neighbourOf, previous, following, passedAt}
 use Rattle.reader.specs.State.{freshOf, isCounted}
 use Rattle.reader.specs.Answer.{Outcome}
@@ -28,11 +27,11 @@ use Rattle.reader.specs.Column.{totalsOf}
 use Rattle.reader.specs.Ordinary.{Countable, Ordinary, nothingBefore, passing, digitsIn, ordinaryTotals}
 use Rattle.reader.proofs.passing.Places.{is-separator, no-separator}
 use Rattle.reader.proofs.passing.Landings.{stays-on-other, stays-behind, passes-behind}
-use Rattle.reader.proofs.rule.CommonLaws.{aSeparator, later-looks-behind, single-stops}
-use Rattle.reader.proofs.skip.LoopState.{stateAt, counted-tells}
+use Rattle.reader.proofs.rule.CommonLaws.{later-looks-behind, single-stops}
+use Rattle.reader.proofs.state.Updates.{stateAt, counted-tells, fresh-count}
 use Rattle.reader.proofs.skip.TakeLoop.{Running, running-starts, running-on, running-out}
 use Rattle.reader.proofs.pairs.Counts.{one-pair, no-pair}
-use Rattle.reader.proofs.column.Cells.{fresh-count}
+use Rattle.reader.proofs.Booleans.{and-right}
 
 -- the digits from a place on
 digits-from : (radix : ℕ) (s : List ℕ) (at : ℕ) → at < length s
@@ -47,10 +46,6 @@ one-more false count rest total e = omega arith
 positive-on : (d : Bool) (count : ℕ) → 0 < count → 0 < cond (true && d) (count + 1) count
 positive-on true count h = omega arith
 positive-on false count h = h
-
-is-counted : (a b : Bool) → (a && b) ≡ true → b ≡ true
-is-counted true b e = e
-is-counted false b e = absurd (let z : _≡_ {A = ℕ} 0 1 = cc in omega arith)
 
 module _ (x : Syntax) (r : Reader) (s : List ℕ) (q : Countable x r s) where
   -- a byte that is a digit is no separator
@@ -246,4 +241,4 @@ module _ (x : Syntax) (r : Reader) (s : List ℕ) (q : Countable x r s) where
           told-so _ _ _ _ (omega arith) (omega arith) (told-from (length s) 1 1 0 (omega arith) (omega arith) on)
 
     pub ordinary-told : totalsOf r (nextAllOf (readingWith x) s st r) ≡ ordinaryTotals x s
-    ordinary-told = rw (told-whole, counted-tells st r (length s) (digitsIn (x .radix) s) (is-counted (hasAnyFlag (x .flags)) (isCounted r) (q .counts)))
+    ordinary-told = rw (told-whole, counted-tells st r (length s) (digitsIn (x .radix) s) (and-right (hasAnyFlag (x .flags)) (isCounted r) (q .counts)))

@@ -18,20 +18,18 @@ use Rattle.reader.specs.State.{countOf}
 use Rattle.reader.specs.Answer.{Outcome}
 use Rattle.reader.specs.Calls.{peekOf, readIfOf}
 use Rattle.reader.specs.ZeroSkip.{skipRefusal, isZero, zeroReadOf, skipped, skipZerosOf}
-use Rattle.reader.proofs.passing.Places.{no-separator}
+use Rattle.reader.proofs.passing.Places.{no-separator, byte-here, no-byte}
 use Rattle.reader.proofs.passing.Landings.{landingOf, stays-on-other}
-use Rattle.reader.proofs.skip.Looks.{byte-there, byte-missing}
 use Rattle.reader.proofs.state.Refusals.{skip-within, skip-admits}
 use Rattle.reader.proofs.Repeats.{Repeating, repeating-starts, repeating-ends, repeating-goes-on}
-use Rattle.reader.proofs.skip.LoopState.{stateAt, own-count, at-cursor, past-byte, counts-one, counted-tells, Standing, standing-starts, standing-counts, standing-on, peeks-at}
+use Rattle.reader.proofs.state.Updates.{stateAt, own-count, at-cursor, past-byte, counts-one, counted-tells}
+use Rattle.reader.proofs.skip.LoopState.{Standing, standing-starts, standing-counts, standing-on, peeks-at}
 use Rattle.reader.proofs.iterator.Zeros.{zero-takes-one, skip-admitted}
+use Rattle.reader.proofs.Booleans.{contradicts}
 
 -- there is a byte at the place, and it is `0`
 abbrev zeroAt : List ℕ → ℕ → Bool
 zeroAt s place = ltb place (length s) && isZero (getD s place 0)
-
-contradicts : false ≡ true → ⊥
-contradicts e = let z : _≡_ {A = ℕ} 0 1 = cc in omega arith
 
 zero-there : (s : List ℕ) (place : ℕ) → zeroAt s place ≡ true → (place < length s) × (isZero (getD s place 0) ≡ true)
 zero-there s place t = go (ltb place (length s)) refl where
@@ -97,7 +95,7 @@ module _ (m : Reading) (s : List ℕ) (r : Reader) (st : State) (clear : skipRef
       unfolding zeroReadOf readIfOf
       takes-zero t =
           let zero = zero-there s place t in
-          rw (seen, byte-there s place (zero .0), zero .1, past-byte st r place count, counts-one st r (place + 1) count)
+          rw (seen, byte-here s place (zero .0), zero .1, past-byte st r place count, counts-one st r (place + 1) count)
 
       -- a read declines a byte that is no `0`, and the end
       declines : zeroAt s place ≡ false → zeroReadOf m s r now
@@ -108,8 +106,8 @@ module _ (m : Reading) (s : List ℕ) (r : Reader) (st : State) (clear : skipRef
             ≡ record { refusal = 0; byte = none; taken = 0; passed = place - at; state = stateAt st r place count }
         go true e =
             let other : isZero (getD s place 0) ≡ false = rw e at t in
-            rw (seen, byte-there s place (ltb-true place (length s) e), other)
-        go false e = rw (seen, byte-missing s place (ltb-false place (length s) e))
+            rw (seen, byte-here s place (ltb-true place (length s) e), other)
+        go false e = rw (seen, no-byte s place (ltb-false place (length s) e))
 
       pub skipping-on : zeroAt s place ≡ true → Skipping m s r st (place + 1) (count + 1) (taken + 1) (passed + (place - at))
       skipping-on t =

@@ -1,7 +1,7 @@
 -- The zero skip, read by read: what a read of it takes, and what the skip answers once its refusals are tested. Assumes nothing.
 use mathlib.Core.Path.{_≡_, _∙_, refl, sym, ap}
 use mathlib.Core.List.{List}
-use mathlib.Core.Option.{some}
+use mathlib.Core.Option.{some, none}
 use Prim.Native.Nat.{ℕ, _+_}
 use lib.ListN.{length}
 use Rattle.reader.specs.declared.state.Reader.{Reader}
@@ -13,10 +13,11 @@ use Rattle.reader.specs.Answer.{numberOf}
 use Rattle.reader.specs.Repeat.{repeated}
 use Rattle.reader.specs.ZeroSkip.{skipRefusal, isZero, raised, zeroReadOf, skipped, refusedSkip, skipZerosOf}
 use Rattle.reader.proofs.state.Refusals.{refusal-tells}
-use Rattle.reader.proofs.skip.Looks.{none-there}
-use Rattle.reader.proofs.iterator.ReadCases.{read-cases}
-use Rattle.reader.proofs.Repeats.{TakesOne}
-use Rattle.reader.proofs.skip.Takes.{counted-stays, peek-byte}
+use Rattle.reader.proofs.passing.Places.{none-there}
+use Rattle.reader.proofs.iterator.ConditionalReads.{read-cases}
+use Rattle.reader.proofs.Repeats.{TakesOne, repeated-ends}
+use Rattle.reader.proofs.state.Updates.{counted-stays}
+use Rattle.reader.proofs.skip.Takes.{peek-byte}
 
 -- a read of a zero skip with a byte took one
 pub zero-takes-one : (m : Reading) (s : List ℕ) (st : State) (r : Reader) (b : ℕ) → zeroReadOf m s r st .byte ≡ some b → TakesOne s st (zeroReadOf m s r st)
@@ -37,3 +38,7 @@ module _ (m : Reading) (s : List ℕ) (st : State) (r : Reader) where
   pub skip-refused : (e : Refusal) → numberOf e ≡ skipRefusal (m .flags) s st r → refusedSkip (numberOf e) st ≡ skipZerosOf m s st r
   unfolding skipZerosOf
   skip-refused e number = rw (sym number, refusal-tells e)
+
+-- the reads of a zero skip have come to their end: the last one answers no byte
+pub zero-skip-ends : (m : Reading) (s : List ℕ) (st : State) (r : Reader) → repeated (length s) (zeroReadOf m s r) st .byte ≡ none
+zero-skip-ends m s st r = repeated-ends s (zeroReadOf m s r) (λ here. zero-takes-one m s here r) st

@@ -7,7 +7,7 @@ use native.Mathlib.Omega.{arith}
 use lib.ListN.{length, getD}
 use borrow.Author.Tests.{le-leb, lt-leb}
 use Rattle.reader.specs.Plain.{plainPeekOf}
-use Rattle.reader.proofs.skip.Looks.{byte-there, byte-missing}
+use Rattle.reader.proofs.passing.Places.{byte-here, no-byte}
 
 module _ (s : List ℕ) (at : ℕ) where
   pub past-end : length s < at → plainPeekOf s at ≡ record { refusal = 16; byte = none; taken = 0; passed = 0; cursor = at }
@@ -16,8 +16,8 @@ module _ (s : List ℕ) (at : ℕ) where
 
   pub on-byte : at < length s → plainPeekOf s at ≡ record { refusal = 0; byte = some (getD s at 0); taken = 0; passed = 0; cursor = at }
   unfolding plainPeekOf
-  on-byte h = rw (le-leb at (length s) (omega arith), byte-there s at h)
+  on-byte h = rw (le-leb at (length s) (omega arith), byte-here s at h)
 
   pub at-end : at ≤ length s → length s ≤ at → plainPeekOf s at ≡ record { refusal = 0; byte = none; taken = 0; passed = 0; cursor = at }
   unfolding plainPeekOf
-  at-end g h = rw (le-leb at (length s) g, byte-missing s at h)
+  at-end g h = rw (le-leb at (length s) g, no-byte s at h)

@@ -1,18 +1,19 @@
 -- Laws of a place and the bytes around it, by index, as a search over a slice meets them. Assumes nothing.
-use mathlib.Core.Path.{_≡_, refl}
-use mathlib.Core.Bool.{Bool, true, false, cond, not, _&&_}
+use mathlib.Core.Path.{_≡_, refl, sym, _∙_}
+use mathlib.Core.Bool.{Bool, true, false, cond, not}
 use mathlib.Core.List.{List, [], _∷_, reverseAux, head?}
 use mathlib.Core.Logic.{⊎-elim}
-use mathlib.Core.Option.{some, none}
+use mathlib.Core.Option.{some, none, Option}
 use Prim.Native.Nat.{ℕ, zero, suc, _+_, _-_, _%_, _^_, _≤_, _<_}
 use native.Mathlib.Nat.{eq-zero-or-pos}
 use native.Mathlib.Numerals.{add-one}
 use native.Mathlib.Omega.{arith}
-use borrow.Author.Tests.{eq-eqb, ne-eqb}
-use lib.Dec.{eqb}
+use borrow.Author.Tests.{eq-eqb, ne-eqb, ltb-true, ltb-false}
+use lib.Dec.{eqb, ltb}
 use lib.ListN.{length, take, drop, getD, drop-of-length-le}
 use lib.Seq.{drop-cons, drop-drop}
 use Rattle.reader.specs.Place.{isSeparator, byteAt, before, firstOther, separatorRun}
+use Rattle.reader.proofs.Booleans.{and-false}
 
 -- the byte at an index
 module _ (s : List ℕ) (i : ℕ) where
@@ -26,10 +27,6 @@ module _ (s : List ℕ) (i : ℕ) where
 pub is-separator : (separator b : ℕ) → 0 < separator → b ≡ separator → isSeparator separator b ≡ true
 unfolding isSeparator
 is-separator separator b positive e = rw (ne-eqb separator 0 (λ z. omega arith), eq-eqb b separator e)
-
-and-false : (b : Bool) → (b && false) ≡ false
-and-false true = refl
-and-false false = refl
 
 pub no-separator : (separator b : ℕ) → (b ≡ separator → ⊥) → isSeparator separator b ≡ false
 unfolding isSeparator
@@ -72,7 +69,7 @@ module _ (s : List ℕ) (at i : ℕ) (small : length s < 2 ^ 64) (within : at �
 
 -- A search backwards for a byte that is no separator has come to the index i: from there it finds what it finds from the place `at`.
 pub record Searching (separator : ℕ) (s : List ℕ) (at i : ℕ) : Type 0 where
-  pub same : firstOther separator (before s (placeAfter i)) ≡ firstOther separator (before s at)
+  same : firstOther separator (before s (placeAfter i)) ≡ firstOther separator (before s at)
   pub within : placeAfter i ≤ length s
   pub fits : i < 2 ^ 64
 
@@ -134,3 +131,15 @@ module _ (separator : ℕ) (s : List ℕ) (i : ℕ) where
 
   pub run-over : i < length s → 0 < separator → getD s i 0 ≡ separator → runEnd separator s (i + 1) ≡ runEnd separator s i
   run-over h positive same = rw (drop-cons s i 0 h, is-separator separator _ positive same, add-one) (omega arith)
+
+-- no byte and a byte are not the same
+pub none-there : (b : ℕ) → _≡_ {A = Option ℕ} none (some b) → ⊥
+none-there b e = let z : _≡_ {A = ℕ} 0 1 = cc in omega arith
+
+-- a byte lies within the buffer
+pub byte-inside : (s : List ℕ) (k b : ℕ) → byteAt s k ≡ some b → k < length s
+byte-inside s k b e = go (ltb k (length s)) refl where
+  go : (t : Bool) → ltb k (length s) ≡ t → k < length s
+  go true t = ltb-true k (length s) t
+  go false t =
+      absurd (none-there b (sym (no-byte s k (ltb-false k (length s) t)) ∙ e))

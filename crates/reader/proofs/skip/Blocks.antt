@@ -22,7 +22,7 @@ use Rattle.reader.specs.Answer.{numberOf, BlockOutcome, blockBytes, bloc
 use Rattle.reader.specs.Part.{PartOf}
 use Rattle.reader.specs.Block.{blockRefusal, refusedBlock, blockFrom, takeNOf, takeNPart, partStart, BlockPart}
 use Rattle.reader.proofs.state.Refusals.{block-within, refusal-tells}
-use Rattle.reader.proofs.skip.Looks.{none-there}
+use Rattle.reader.proofs.passing.Places.{none-there}
 
 module _ (m : Reading) (s : List ℕ) (st : State) (r : Reader) (n : ℕ) where
   pub block-admitted : blockRefusal s st r ≡ 0 → blockFrom (m .flags) s st n ≡ takeNOf m s st r n

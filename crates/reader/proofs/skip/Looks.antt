@@ -1,34 +1,67 @@
 -- A look that found a byte or the end is the peek that passed as many separators as the cursor moved. Assumes nothing.
-use mathlib.Core.Path.{_≡_, sym}
+use mathlib.Core.Path.{_≡_, sym, _∙_, ap}
 use mathlib.Core.List.{List}
-use mathlib.Core.Option.{Option, some, none}
+use mathlib.Core.Option.{some, none}
 use Prim.Native.Nat.{ℕ, _+_, _-_, _<_, _≤_}
 use native.Mathlib.Omega.{arith}
-use lib.ListN.{length, getD, drop-of-length-le}
-use lib.Seq.{drop-cons}
+use lib.ListN.{length, getD}
 use Rattle.reader.specs.declared.state.State.{State}
-use Rattle.reader.specs.declared.skip.Looked.the-variants.{Byte, End}
-use Rattle.reader.specs.Place.{byteAt}
-use Rattle.reader.specs.Answer.{lookOutcome}
-use Rattle.reader.specs.Calls.{seenPast}
-
-pub byte-there : (s : List ℕ) (place : ℕ) → place < length s → byteAt s place ≡ some (getD s place 0)
-byte-there s place h = rw (drop-cons s place 0 h)
-
-pub byte-missing : (s : List ℕ) (place : ℕ) → length s ≤ place → byteAt s place ≡ none
-byte-missing s place h = rw (drop-of-length-le s h)
-
--- no byte and a byte are not the same
-pub none-there : (b : ℕ) → _≡_ {A = Option ℕ} none (some b) → ⊥
-none-there b e = let z : _≡_ {A = ℕ} 0 1 = cc in omega arith
+use Rattle.reader.specs.declared.skip.Looked.the-variants.{Byte, End, Refused}
+use Rattle.reader.specs.Answer.{lookOutcome, numberOf}
+use Rattle.reader.specs.Calls.{seenPast, refused, peekOf, takenFrom, nextOf, readIfOf}
+use mathlib.Core.Bool.{Bool, true, false}
+use Rattle.reader.specs.declared.state.Reader.{Reader}
+use Rattle.reader.specs.declared.state.Refusal.{Refusal}
+use Rattle.reader.specs.declared.skip.Looked.{Looked}
+use Rattle.reader.specs.State.{movedTo}
+use Rattle.reader.specs.Reading.{Reading}
+use Rattle.reader.proofs.passing.Places.{byte-here, no-byte}
 
 module _ (s : List ℕ) (st : State) (place k : ℕ) (moves : place ≡ st .cursor + k) where
   pub looked-byte : place < length s → lookOutcome st (Byte (getD s place 0) place (place - st .cursor)) ≡ seenPast s st k
   looked-byte h =
       let passed : place - st .cursor ≡ k = omega arith in
-      rw (passed, sym (byte-there s place h), moves)
+      rw (passed, sym (byte-here s place h), moves)
 
   pub looked-end : length s ≤ place → lookOutcome st (End place (place - st .cursor)) ≡ seenPast s st k
   looked-end h =
       let passed : place - st .cursor ≡ k = omega arith in
-      rw (passed, sym (byte-missing s place h), moves)
+      rw (passed, sym (no-byte s place h), moves)
+
+-- what was seen, in the case that the match found
+pub seen-as : (m : Reading) (s : List ℕ) (st : State) (r : Reader) (a b : Looked) → lookOutcome st a ≡ peekOf m s st r → a ≡ b → lookOutcome st b ≡ peekOf m s st r
+seen-as m s st r a b e same = sym (ap (lookOutcome st) same) ∙ e
+
+module _ (m : Reading) (s : List ℕ) (st : State) (r : Reader) where
+  module _ (b place passed : ℕ) (seen : lookOutcome st (Byte b place passed) ≡ peekOf m s st r) where
+    pub takes-byte : record { refusal = 0; byte = some b; taken = 1; passed = passed; state = takenFrom m r b (movedTo st place) } ≡ nextOf m s st r
+    unfolding nextOf
+    takes-byte = rw (sym seen)
+
+    pub reads-byte : (wanted : ℕ → Bool) → wanted b ≡ true
+        → record { refusal = 0; byte = some b; taken = 1; passed = passed; state = movedTo st (place + 1) } ≡ readIfOf m s st r wanted
+    unfolding readIfOf movedTo
+    reads-byte wanted holds = rw (sym seen, holds)
+
+    pub declines-byte : (wanted : ℕ → Bool) → wanted b ≡ false
+        → record { refusal = 0; byte = none; taken = 0; passed = passed; state = movedTo st place } ≡ readIfOf m s st r wanted
+    unfolding readIfOf
+    declines-byte wanted fails = rw (sym seen, fails)
+
+  module _ (place passed : ℕ) (seen : lookOutcome st (End place passed) ≡ peekOf m s st r) where
+    pub takes-end : lookOutcome st (End place passed) ≡ nextOf m s st r
+    unfolding nextOf
+    takes-end = rw (sym seen)
+
+    pub declines-end : (wanted : ℕ → Bool) → lookOutcome st (End place passed) ≡ readIfOf m s st r wanted
+    unfolding readIfOf
+    declines-end wanted = rw (sym seen)
+
+  module _ (e : Refusal) (seen : lookOutcome st (Refused e) ≡ peekOf m s st r) where
+    pub takes-refused : refused (numberOf e) st ≡ nextOf m s st r
+    unfolding nextOf
+    takes-refused = rw (sym seen)
+
+    pub reads-refused : (wanted : ℕ → Bool) → refused (numberOf e) st ≡ readIfOf m s st r wanted
+    unfolding readIfOf
+    reads-refused wanted = rw (sym seen)

@@ -15,12 +15,13 @@ use Rattle.reader.specs.Reading.{Reading, hasAnyFlag, mayPass, passedAt}
 use Rattle.reader.specs.State.{isCounted, countOf, movedTo, countedBy, withCount}
 use Rattle.reader.specs.Answer.{Outcome}
 use Rattle.reader.specs.Calls.{refusalWith, takenFrom, nextOf}
-use Rattle.reader.proofs.skip.Looks.{byte-there, byte-missing}
 use Rattle.reader.proofs.state.Refusals.{within}
 use Rattle.reader.specs.Repeat.{repeated}
-use Rattle.reader.proofs.skip.LoopState.{stateAt, own-count, past-byte, Standing, standing-starts, standing-on, peeks-at}
+use Rattle.reader.proofs.state.Updates.{stateAt, own-count, past-byte}
+use Rattle.reader.proofs.skip.LoopState.{Standing, standing-starts, standing-on, peeks-at}
 use Rattle.reader.proofs.Repeats.{Repeating, repeating-starts, repeating-ends, repeating-goes-on}
 use Rattle.reader.proofs.skip.Takes.{next-takes-one}
+use Rattle.reader.proofs.passing.Places.{byte-here, no-byte}
 
 -- Where the reader counts (t), one more is counted; a count of the special reader changes nothing.
 counts-on : (st : State) (r : Reader) (at count : ℕ) (flagged digit : Bool)
@@ -53,7 +54,7 @@ tells-count st Special at count t e to false = e
 -- nothing is passed at the end
 end-passes-none : (m : Reading) (s : List ℕ) (isFirst : Bool) (place : ℕ) → length s ≤ place → passedAt m s isFirst place ≡ 0
 unfolding passedAt mayPass
-end-passes-none m s isFirst place out = rw (byte-missing s place out)
+end-passes-none m s isFirst place out = rw (no-byte s place out)
 
 -- A loop of takes that keeps numbers only begins at a state: its place and count are the state's, and it counts where the reader does.
 pub record Begins (m : Reading) (s : List ℕ) (r : Reader) (st : State) (start counted : ℕ) (counts : Bool) : Type 0 where
@@ -92,12 +93,12 @@ module _ (m : Reading) (s : List ℕ) (r : Reader) (st : State) (clear : refusal
       takes-byte : place < length s → nextOf m s now r
           ≡ record { refusal = 0; byte = some (getD s place 0); taken = 1; passed = place - at; state = takenFrom m r (getD s place 0) (stateAt st r place count) }
       unfolding nextOf
-      takes-byte h = rw (peeks-at s r st at count (here .stands) m clear place lands, byte-there s place h)
+      takes-byte h = rw (peeks-at s r st at count (here .stands) m clear place lands, byte-here s place h)
 
       -- a take that finds the end
       takes-end : length s ≤ place → nextOf m s now r ≡ record { refusal = 0; byte = none; taken = 0; passed = place - at; state = stateAt st r place count }
       unfolding nextOf
-      takes-end h = rw (peeks-at s r st at count (here .stands) m clear place lands, byte-missing s place h)
+      takes-end h = rw (peeks-at s r st at count (here .stands) m clear place lands, no-byte s place h)
 
       -- the count behind the byte
       abbrev countOn : ℕ

@@ -1,66 +1,24 @@
 -- Where a take leaves the cursor, and takes from a refused state. Assumes nothing.
 use mathlib.Core.Path.{_≡_, _∙_, refl, sym, ap}
 use mathlib.Core.Bool.{Bool, true, false, cond, _&&_}
-use mathlib.Core.List.{List, [], _∷_}
+use mathlib.Core.List.{List}
 use mathlib.Core.Option.{Option, some, none}
-use Prim.Native.Nat.{ℕ, suc, _+_, _-_, _<_, _≤_}
-use native.Mathlib.Omega.{arith}
-use lib.Dec.{eqb, ltb}
-use lib.ListN.{length, drop, length-drop}
-use borrow.Author.Tests.{ltb-true, ltb-false, eqb-true}
+use Prim.Native.Nat.{ℕ, _+_, _-_, _<_, _≤_}
+use lib.Dec.{eqb}
+use lib.ListN.{length}
+use borrow.Author.Tests.{eqb-true}
 use Rattle.reader.specs.declared.state.Reader.{Reader}
-use Rattle.reader.specs.declared.state.Reader.the-variants.{Integer, Fraction, Exponent, Special}
 use Rattle.reader.specs.declared.state.State.{State}
 use Rattle.reader.specs.declared.state.Refusal.{Refusal}
-use Rattle.reader.specs.Place.{isSeparator, byteAt, separatorRun}
-use Rattle.reader.specs.Reading.{Reading, hasAnyFlag, mayPass, passedAt, passesByte}
+use Rattle.reader.specs.Reading.{Reading, hasAnyFlag}
 use Rattle.reader.specs.State.{countSum, movedTo, countedBy}
 use Rattle.reader.specs.Answer.{numberOf, Outcome}
-use Rattle.reader.specs.Calls.{refusalWith, refusalOf, refused, peeked, peekOf, takenFrom, takeByte, nextOf}
-use Rattle.reader.proofs.skip.Looks.{byte-missing, none-there}
+use Rattle.reader.specs.Calls.{refusalWith, refusalOf, refused, peeked, peekOf, takenFrom, takeByte, nextOf, nextAllOf}
+use Rattle.reader.proofs.passing.Places.{none-there, byte-inside}
 use Rattle.reader.specs.Repeat.{repeated}
 use Rattle.reader.proofs.state.Refusals.{within, peek-refused}
-use Rattle.reader.proofs.Repeats.{repeated-stops, TakesOne}
-
--- a byte lies within the buffer
-pub byte-inside : (s : List ℕ) (k b : ℕ) → byteAt s k ≡ some b → k < length s
-byte-inside s k b e = go (ltb k (length s)) refl where
-  go : (t : Bool) → ltb k (length s) ≡ t → k < length s
-  go true t = ltb-true k (length s) t
-  go false t =
-      absurd (none-there b (sym (byte-missing s k (ltb-false k (length s) t)) ∙ e))
-
-pub run-fits : (separator : ℕ) (l : List ℕ) → separatorRun separator l ≤ length l
-run-fits separator [] = omega arith
-run-fits separator (b ∷ l) = go (isSeparator separator b) (run-fits separator l) where
-  go : (t : Bool) → separatorRun separator l ≤ length l → cond t (suc (separatorRun separator l)) 0 ≤ suc (length l)
-  go true h = omega arith
-  go false h = omega arith
-
--- what is passed at a place lies within the buffer
-module _ (m : Reading) (s : List ℕ) (isFirst : Bool) (place : ℕ) where
-  one-fits : mayPass m s isFirst place ≡ true → place < length s
-  unfolding mayPass
-  one-fits e = go (byteAt s place) refl e where
-    go : (o : Option ℕ) → byteAt s place ≡ o → passesByte m s isFirst place o ≡ true → place < length s
-    go none q h = absurd (let z : _≡_ {A = ℕ} 0 1 = cc in omega arith)
-    go (some b) q h = byte-inside s place b q
-
-  pub passed-fits : place ≤ length s → place + passedAt m s isFirst place ≤ length s
-  unfolding passedAt
-  passed-fits h = go (mayPass m s isFirst place) (m .flags .consecutive) refl refl where
-    go : (t c : Bool) → mayPass m s isFirst place ≡ t → m .flags .consecutive ≡ c → place + passedAt m s isFirst place ≤ length s
-    go false c p q = rw p (omega arith)
-    go true true p q = rw (p, q) (omega (arith, run-fits (m .separator) (drop place s), length-drop place s, one-fits p))
-    go true false p q = rw (p, q) (omega (arith, one-fits p))
-
--- a count leaves the cursor where it is
-pub counted-stays : (st : State) (r : Reader) → countedBy st r .cursor ≡ st .cursor
-unfolding countedBy
-counted-stays st Integer = refl
-counted-stays st Fraction = refl
-counted-stays st Exponent = refl
-counted-stays st Special = refl
+use Rattle.reader.proofs.Repeats.{repeated-stops, TakesOne, repeated-ends}
+use Rattle.reader.proofs.state.Updates.{counted-stays}
 
 taken-moves : (m : Reading) (r : Reader) (b : ℕ) (st : State) → takenFrom m r b st .cursor ≡ st .cursor + 1
 unfolding movedTo
@@ -104,3 +62,8 @@ refused-at-once m s st r e number =
     let seen = peek-refused m s st r e number in
     let next : nextOf m s st r ≡ refused (numberOf e) st = rw seen in
     sym (repeated-stops (λ here. nextOf m s here r) (length s) st (ap (λ (o : Outcome). o .byte) next) ∙ next)
+
+-- takes to the end have come to their end: the last one answers no byte
+pub takes-end-all : (m : Reading) (s : List ℕ) (st : State) (r : Reader) → nextAllOf m s st r .byte ≡ none
+unfolding nextAllOf
+takes-end-all m s st r = repeated-ends s (λ here. nextOf m s here r) (λ here. next-takes-one m s here r) st

@@ -4,7 +4,8 @@ use mathlib.Core.Path.{refl}
 use native.Mathlib.Omega.{arith}
 use borrow.Author.Needs.{needs}
 use Rattle.reader.specs.Reading.{readingWith}
-use Rattle.reader.proofs.column.Cells.{fresh-count, counted-at-most, cell-told}
+use Rattle.reader.proofs.state.Updates.{fresh-count, counted-at-most}
+use Rattle.reader.proofs.column.Cells.{cell-told}
 use Rattle.reader.proofs.column.cell_totals.Statement.{statement}
 use Rattle.reader.proofs.column.cell_totals.Tie as tie
 

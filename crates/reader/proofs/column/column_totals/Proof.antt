@@ -6,7 +6,8 @@ use native.Mathlib.Omega.{arith}
 use borrow.Author.Needs.{needs}
 use lib.ListN.{length}
 use Rattle.reader.proofs.column.Cells.{quick-told}
-use Rattle.reader.proofs.column.Stretches.{Summed, sums-start, sums-stretch, sums-cell, sums-end, refused-alike}
+use Rattle.reader.proofs.column.Sums.{Summed, sums-start, sums-stretch, sums-cell, sums-end}
+use Rattle.reader.proofs.column.Stretches.{refused-alike}
 use Rattle.reader.proofs.column.column_totals.Statement.{statement}
 use Rattle.reader.proofs.column.column_totals.Tie as tie
 

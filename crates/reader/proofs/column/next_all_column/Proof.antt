@@ -4,7 +4,7 @@ use Rattle.reader.specs.declared.passing.Syntax.{Syntax}
 use Rattle.reader.specs.Answer.{admissionNumber}
 use Rattle.reader.specs.Reading.{readingWith}
 use Rattle.reader.specs.Column.{columnOf}
-use Rattle.reader.proofs.column.Stretches.{column-read, column-refused}
+use Rattle.reader.proofs.column.Sums.{column-read, column-refused}
 use borrow.Author.Needs.{needs}
 use Rattle.reader.proofs.column.next_all_column.Statement.{statement}
 use Rattle.reader.proofs.column.next_all_column.Tie as tie

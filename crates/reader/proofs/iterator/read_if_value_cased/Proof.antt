@@ -4,7 +4,7 @@ use native.Mathlib.Omega.{arith}
 use lib.Dec.{eqb}
 use Rattle.word.specs.ByteSet.{member}
 use Rattle.reader.specs.Reading.{readingFor}
-use Rattle.reader.proofs.iterator.Sets.{reads-alike}
+use Rattle.reader.proofs.iterator.ConditionalReads.{reads-alike}
 use borrow.Author.Needs.{needs}
 use Rattle.reader.proofs.iterator.read_if_value_cased.Statement.{statement}
 use Rattle.reader.proofs.iterator.read_if_value_cased.Tie as tie

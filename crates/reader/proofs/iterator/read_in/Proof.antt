@@ -3,7 +3,7 @@ use native.Mathlib.Omega.{arith}
 use mathlib.Core.Path.{_∙_, sym}
 use Rattle.word.specs.ByteSet.{member}
 use Rattle.reader.specs.Reading.{readingWith}
-use Rattle.reader.proofs.skip.Calls.{seen-as, reads-byte, declines-byte, declines-end, reads-refused}
+use Rattle.reader.proofs.skip.Looks.{seen-as, reads-byte, declines-byte, declines-end, reads-refused}
 use borrow.Author.Needs.{needs}
 use Rattle.reader.proofs.iterator.read_in.Statement.{statement}
 use Rattle.reader.proofs.iterator.read_in.Tie as tie

@@ -1,7 +1,7 @@
 -- `reader::skip::peek_in` meets its contract: what was looked at is answered. Assumes nothing.
 use mathlib.Core.Path.{sym}
 use Rattle.reader.specs.Reading.{readingWith}
-use Rattle.reader.proofs.skip.Calls.{seen-as}
+use Rattle.reader.proofs.skip.Looks.{seen-as}
 use borrow.Author.Needs.{needs}
 use Rattle.reader.proofs.skip.peek_in.Statement.{statement}
 use Rattle.reader.proofs.skip.peek_in.Tie as tie

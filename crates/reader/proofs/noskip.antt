@@ -1,0 +1,2 @@
+-- The plain reader (src/noskip.rt).
+mod Cases

@@ -1,0 +1,2 @@
+-- Counts of pairs (src/pairs.rt).
+pub mod Counts

@@ -1,0 +1,3 @@
+-- Laws of the rule table (src/rule.rt).
+mod Table
+pub mod CommonLaws

@@ -1,0 +1,6 @@
+-- Laws of peeks, takes and block takes, and of the loop that takes to the end (src/skip.rt).
+pub mod Looks
+pub mod Takes
+pub mod LoopState
+pub mod TakeLoop
+mod Blocks
