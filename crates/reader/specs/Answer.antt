@@ -1,18 +1,12 @@
 -- What the cases of the calls' answers say in document 01's terms: its number of a refusal, the byte, and how many bytes were taken
 -- and separators passed. The contracts use these. Assumes nothing.
-use Prim.Native.Nat.{ℕ, _-_, _<_, _≤_}
-use mathlib.Core.List.{List}
-use lib.ListN.{length}
+use Prim.Native.Nat.{ℕ}
 use mathlib.Core.Option.{Option, some, none}
 use Rattle.reader.specs.declared.state.State.{State}
 use Rattle.reader.specs.declared.state.Refusal.{Refusal}
 use Rattle.reader.specs.declared.state.Refusal.the-variants.{CursorPastEnd, CountsExceedCursor, SpecialReader, ConsecutiveInteger, ConsecutiveFraction, ConsecutiveExponent}
 use Rattle.reader.specs.declared.state.Admission.{Admission}
 use Rattle.reader.specs.declared.state.Admission.the-variants as admission
-use Rattle.reader.specs.declared.state.Reader.{Reader}
-use Rattle.reader.specs.declared.skip.TakeSums.{TakeSums}
-use Rattle.reader.specs.declared.skip.Looked.{Looked}
-use Rattle.reader.specs.declared.skip.Looked.the-variants as looked
 use Rattle.reader.specs.declared.skip.Seen.{Seen}
 use Rattle.reader.specs.declared.skip.Seen.the-variants as seen
 use Rattle.reader.specs.declared.skip.Answer.{Answer}
@@ -27,7 +21,6 @@ use Rattle.reader.specs.declared.iterator.SkipAnswer.{SkipAnswer}
 use Rattle.reader.specs.declared.skip.Block.{Block}
 use Rattle.reader.specs.declared.skip.Block.the-variants as block
 use Rattle.reader.specs.declared.skip.BlockAnswer.{BlockAnswer}
-use Rattle.reader.specs.State.{movedTo, withCount, countSum}
 
 -- "What the office log shows"
 abbrev pub numberOf : Refusal → ℕ
@@ -49,32 +42,6 @@ pub record Outcome : Type 0 where
 abbrev pub admissionNumber : Admission → ℕ
 admissionNumber admission.Admitted = 0
 admissionNumber (admission.Refused e) = numberOf e
-
--- what a look saw: a byte or the end, with the place that the cursor moves to and how many separators it passes; as the outcome
--- of a peek from a state
-abbrev pub lookOutcome : State → Looked → Outcome
-lookOutcome st (looked.Byte b place passed) =
-    record { refusal = 0; byte = some b; taken = 0; passed = passed; state = movedTo st place }
-lookOutcome st (looked.End place passed) =
-    record { refusal = 0; byte = none; taken = 0; passed = passed; state = movedTo st place }
-lookOutcome st (looked.Refused e) = record { refusal = numberOf e; byte = none; taken = 0; passed = 0; state = st }
-
--- a byte that was seen lies in the buffer, and the counts are within its place
-abbrev pub LookFits : List ℕ → State → Looked → Type 0
-LookFits s st (looked.Byte b place passed) = (place < length s) × (countSum st ≤ place)
-LookFits s st (looked.End place passed) = Unit {0}
-LookFits s st (looked.Refused e) = Unit {0}
-
--- what takes to the end come to from a state: the end, with the state at the run's place and count
-abbrev pub sumsOutcome : State → Reader → TakeSums → Outcome
-sumsOutcome st r run =
-    record {
-      refusal = 0;
-      byte = none;
-      taken = run .at - st .cursor - run .passed;
-      passed = run .passed;
-      state = withCount (movedTo st (run .at)) r (run .count);
-    }
 
 -- a peek's and a take's answer: a byte, the end, or a refusal
 abbrev pub seenNumber : Seen → ℕ

@@ -1,19 +1,18 @@
+-- Document 01's definitions, in its order; then a column of cells, which is ours. Code has what only private functions are promised.
 pub mod Rule
-pub mod RuleData
 pub mod Place
 pub mod Reading
 pub mod State
 pub mod Answer
 pub mod Repeat
-pub mod Pairs
 pub mod Calls
 pub mod ZeroSkip
 pub mod Part
 pub mod Block
-pub mod Bytes
+pub mod Plain
+pub mod RefusalKeeps
 pub mod History
 pub mod ByteTally
-pub mod Plain
+pub mod Bytes
 pub mod Column
-pub mod RefusalKeeps
-pub mod Ordinary
+pub mod Code

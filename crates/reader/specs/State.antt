@@ -75,13 +75,3 @@ isCounted Integer = true
 isCounted Fraction = true
 isCounted Exponent = true
 isCounted Special = false
-
--- the same state with n for the reader's own count
-unfoldable pub withCount : State → Reader → ℕ → State
-withCount st Integer n =
-    record { format = st .format; cursor = st .cursor; integer = record { 0 = n }; fraction = st .fraction; exponent = st .exponent }
-withCount st Fraction n =
-    record { format = st .format; cursor = st .cursor; integer = st .integer; fraction = record { 0 = n }; exponent = st .exponent }
-withCount st Exponent n =
-    record { format = st .format; cursor = st .cursor; integer = st .integer; fraction = st .fraction; exponent = record { 0 = n } }
-withCount st Special n = st

@@ -8,7 +8,7 @@ ghost use Rattle.reader.specs.Reading.{readingWith, readingOf};
 ghost use Rattle.reader.specs.State.{freshOf};
 ghost use Rattle.reader.specs.Calls.{refusalWith, ownCount};
 ghost use Rattle.reader.specs.Column.{partFrom, addTotals, cellTotals, columnFrom, columnOf, columnOutcomeOf};
-ghost use Rattle.reader.specs.Ordinary.{Countable, Ordinary, Stretch, fillsOf, isServed, isQuick, passing as passingOf, doubles as doublesOf, beforeDigits, ordinaryTotals};
+ghost use Rattle.reader.specs.Code.OrdinaryCells.{Countable, Ordinary, Stretch, fillsOf, isServed, isQuick, passing as passingOf, doubles as doublesOf, beforeDigits, ordinaryTotals};
 use crate::pairs::Pairs;
 use crate::pairs::count_pairs;
 use crate::passing::Syntax;

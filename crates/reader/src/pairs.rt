@@ -4,7 +4,7 @@ ghost use mathlib.Core.Path.{_≡_};
 ghost use mathlib.Core.Bool.{cond};
 ghost use Prim.Native.Nat.{_+_, _≤_, _<_};
 ghost use lib.ListN.{length};
-ghost use Rattle.reader.specs.Pairs.{matchesOf, pairsOf};
+ghost use Rattle.reader.specs.Code.Pairs.{matchesOf, pairsOf};
 use word::digit::char_is_digit_by_range;
 
 // Which pairs count: those whose first byte is the separator, or all, by the kind of the second byte. A byte that is a digit and the

@@ -6,7 +6,7 @@ ghost use Prim.Native.Nat.{_+_, _-_, _%_, _^_, _≤_, _<_};
 ghost use lib.ListN.{length, drop, getD};
 ghost use Rattle.word.specs.Word.{mantissaRadix};
 ghost use Rattle.reader.specs.Rule.{ruleOf};
-ghost use Rattle.reader.specs.RuleData.{IsLater};
+ghost use Rattle.reader.specs.Code.RuleWords.{IsLater};
 ghost use Rattle.reader.specs.Place.{byteAt, before, after, firstOther, separatorRun, nearest};
 ghost use Rattle.reader.specs.Reading.{flagsOf, syntaxOf, syntaxFor, readingWith, neighbourOf, previous, following, passedAt};
 use crate::rule;

@@ -5,7 +5,7 @@ ghost use mathlib.Core.Bool.{cond};
 ghost use Prim.Native.Nat.{_≤_, _<_};
 ghost use Rattle.word.specs.Bits.{bit};
 ghost use Rattle.reader.specs.Rule.{ruleOf, namesOf};
-ghost use Rattle.reader.specs.RuleData.{cellOf, codeOf, IsEntry, IsLater};
+ghost use Rattle.reader.specs.Code.RuleWords.{cellOf, codeOf, IsEntry, IsLater};
 use word::format_flags::bit_at;
 
 // Where a reader may pass separators.

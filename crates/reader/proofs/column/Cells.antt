@@ -17,11 +17,11 @@ use Rattle.reader.specs.declared.skip.TakeSums.{TakeSums}
 use Rattle.reader.specs.declared.column.Totals.{Totals}
 use Rattle.reader.specs.State.{freshOf, movedTo}
 use Rattle.reader.specs.Reading.{Reading}
-use Rattle.reader.specs.Answer.{sumsOutcome}
+use Rattle.reader.specs.Code.TakeSums.{sumsOutcome}
 use Rattle.reader.specs.Calls.{nextAllOf, ownCount}
-use Rattle.reader.specs.Pairs.{pairsOf}
+use Rattle.reader.specs.Code.Pairs.{pairsOf}
 use Rattle.reader.specs.Column.{noTotals, cellTotals, totalsOf, partFrom}
-use Rattle.reader.specs.Ordinary.{Countable, Ordinary, fillsOf, isQuick, passing, doubles, beforeDigits, digitsIn, ordinaryTotals}
+use Rattle.reader.specs.Code.OrdinaryCells.{Countable, Ordinary, fillsOf, isQuick, passing, doubles, beforeDigits, digitsOf, ordinaryTotals}
 use Rattle.reader.proofs.passing.Places.{no-separator}
 use Rattle.reader.proofs.state.Updates.{given-count}
 
@@ -98,13 +98,13 @@ digit-or-none false true = refl
 digit-or-none false false = refl
 
 -- the digits of a list are its first byte, if it is one, and those with a byte before them
-behind-digits : (x : Syntax) (b : ℕ) (l : List ℕ) → pairsOf (beforeDigits x) (b ∷ l) ≡ digitsIn (x .radix) l
+behind-digits : (x : Syntax) (b : ℕ) (l : List ℕ) → pairsOf (beforeDigits x) (b ∷ l) ≡ digitsOf (x .radix) l
 behind-digits x b [] = refl
 behind-digits x b (n ∷ l) = rw (digit-or-none (isDigit n (x .radix)) (eqb n (x .separator)), behind-digits x n l)
 
 first-and-behind :
     (x : Syntax) (s : List ℕ) → 0 < length s
-    → cond (isDigit (getD s 0 0) (x .radix)) 1 0 + pairsOf (beforeDigits x) s ≡ digitsIn (x .radix) s
+    → cond (isDigit (getD s 0 0) (x .radix)) 1 0 + pairsOf (beforeDigits x) s ≡ digitsOf (x .radix) s
 first-and-behind x [] filled = absurd (omega arith)
 first-and-behind x (b ∷ l) filled = rw (behind-digits x b l)
 

@@ -22,9 +22,9 @@ use Rattle.reader.specs.Reading.{readingWith, hasAnyFlag, neighbourOf, p
 use Rattle.reader.specs.State.{freshOf, isCounted}
 use Rattle.reader.specs.Answer.{Outcome}
 use Rattle.reader.specs.Calls.{refusalWith, nextAllOf}
-use Rattle.reader.specs.Pairs.{matchesOf, pairsOf}
+use Rattle.reader.specs.Code.Pairs.{matchesOf, pairsOf}
 use Rattle.reader.specs.Column.{totalsOf}
-use Rattle.reader.specs.Ordinary.{Countable, Ordinary, nothingBefore, passing, digitsIn, ordinaryTotals}
+use Rattle.reader.specs.Code.OrdinaryCells.{Countable, Ordinary, nothingBefore, passing, digitsOf, ordinaryTotals}
 use Rattle.reader.proofs.passing.Places.{is-separator, no-separator}
 use Rattle.reader.proofs.passing.Landings.{stays-on-other, stays-behind, passes-behind}
 use Rattle.reader.proofs.rule.CommonLaws.{later-looks-behind, single-stops}
@@ -35,7 +35,7 @@ use Rattle.reader.proofs.Booleans.{and-right}
 
 -- the digits from a place on
 digits-from : (radix : ℕ) (s : List ℕ) (at : ℕ) → at < length s
-    → digitsIn radix (drop at s) ≡ cond (isDigit (getD s at 0) radix) 1 0 + digitsIn radix (drop (at + 1) s)
+    → digitsOf radix (drop at s) ≡ cond (isDigit (getD s at 0) radix) 1 0 + digitsOf radix (drop (at + 1) s)
 digits-from radix s at h = rw (add-one, drop-cons s at 0 h)
 
 -- one digit more
@@ -140,12 +140,12 @@ module _ (x : Syntax) (r : Reader) (s : List ℕ) (q : Countable x r s) where
     told-so P P′ D D′ p d e = rw (p, d) at e
 
     at-end : (at count passed : ℕ) → length s ≤ at → Running (readingWith x) s r st at count passed
-        → nextAllOf (readingWith x) s st r ≡ finish (passed + pairsOf (passing x) (drop at s)) (count + digitsIn (x .radix) (drop at s))
+        → nextAllOf (readingWith x) s st r ≡ finish (passed + pairsOf (passing x) (drop at s)) (count + digitsOf (x .radix) (drop at s))
     unfolding nextAllOf
     at-end at count passed out here =
         let e : at ≡ length s = omega (arith, here .stands .inside) in
         let P : passed ≡ passed + pairsOf (passing x) (drop at s) = rw (drop-of-length-le s out) (omega arith) in
-        let D : count ≡ count + digitsIn (x .radix) (drop at s) = rw (drop-of-length-le s out) (omega arith) in
+        let D : count ≡ count + digitsOf (x .radix) (drop at s) = rw (drop-of-length-le s out) (omega arith) in
         let over = running-out (readingWith x) s r st clear at count passed here out in
         let none-before : length s - 0 - passed ≡ length s - passed = omega arith in
         told-so passed _ count _ P D (sym (rw none-before at (rw e at over)))
@@ -153,7 +153,7 @@ module _ (x : Syntax) (r : Reader) (s : List ℕ) (q : Countable x r s) where
     -- From a place behind the first digit on, what is passed is what counts of the pairs from there.
     abbrev Tells : ℕ → ℕ → ℕ → Type 0
     Tells at count passed =
-        nextAllOf (readingWith x) s st r ≡ finish (passed + pairsOf (passing x) (drop at s)) (count + digitsIn (x .radix) (drop at s))
+        nextAllOf (readingWith x) s st r ≡ finish (passed + pairsOf (passing x) (drop at s)) (count + digitsOf (x .radix) (drop at s))
 
     module _ (n at count passed : ℕ) (few : length s ≤ at + suc n) (above : 0 < count) (here : Running (readingWith x) s r st at count passed)
         (onward : (at′ count′ passed′ : ℕ) → length s ≤ at′ + n → 0 < count′ → Running (readingWith x) s r st at′ count′ passed′ → Tells at′ count′ passed′)
@@ -165,9 +165,9 @@ module _ (x : Syntax) (r : Reader) (s : List ℕ) (q : Countable x r s) where
         takes-here h stays same =
             let d = isDigit (getD s at 0) (x .radix) in
             let on = rw (q .counts) at (running-on (readingWith x) s r st clear at count passed here at stays h) in
-            told-so (passed + (at - at) + pairsOf (passing x) (drop (at + 1) s)) _ (cond (true && d) (count + 1) count + digitsIn (x .radix) (drop (at + 1) s)) _
+            told-so (passed + (at - at) + pairsOf (passing x) (drop (at + 1) s)) _ (cond (true && d) (count + 1) count + digitsOf (x .radix) (drop (at + 1) s)) _
             (omega arith)
-            (one-more d count (digitsIn (x .radix) (drop (at + 1) s)) (digitsIn (x .radix) (drop at s)) (digits-from (x .radix) s at h))
+            (one-more d count (digitsOf (x .radix) (drop (at + 1) s)) (digitsOf (x .radix) (drop at s)) (digits-from (x .radix) s at h))
             (onward (at + 1) (cond (true && d) (count + 1) count) (passed + (at - at)) (omega arith) (positive-on d count above) on)
 
         -- the separator here is passed, and the byte behind it taken
@@ -180,10 +180,10 @@ module _ (x : Syntax) (r : Reader) (s : List ℕ) (q : Countable x r s) where
             let on = rw (q .counts) at (running-on (readingWith x) s r st clear at count passed here (at + 1) lands inside) in
             let one : pairsOf (passing x) (drop at s) ≡ 1 + pairsOf (passing x) (drop (at + 1) s) = rw (add-one, one-pair (passing x) s at (omega arith), rw add-one at t) in
             let rest = pairs-past (at + 1) inside (hit-ends at inside equal t) in
-            let no-digit : digitsIn (x .radix) (drop at s) ≡ 0 + digitsIn (x .radix) (drop (at + 1) s) = digits-from (x .radix) s at (omega arith) ∙ rw (equal, q .apart) in
-            told-so (passed + (at + 1 - at) + pairsOf (passing x) (drop (at + 1 + 1) s)) _ (cond (true && d) (count + 1) count + digitsIn (x .radix) (drop (at + 1 + 1) s)) _
+            let no-digit : digitsOf (x .radix) (drop at s) ≡ 0 + digitsOf (x .radix) (drop (at + 1) s) = digits-from (x .radix) s at (omega arith) ∙ rw (equal, q .apart) in
+            told-so (passed + (at + 1 - at) + pairsOf (passing x) (drop (at + 1 + 1) s)) _ (cond (true && d) (count + 1) count + digitsOf (x .radix) (drop (at + 1 + 1) s)) _
             (omega arith)
-            (one-more d count (digitsIn (x .radix) (drop (at + 1 + 1) s)) (digitsIn (x .radix) (drop (at + 1) s)) (digits-from (x .radix) s (at + 1) inside) ∙ omega arith)
+            (one-more d count (digitsOf (x .radix) (drop (at + 1 + 1) s)) (digitsOf (x .radix) (drop (at + 1) s)) (digits-from (x .radix) s (at + 1) inside) ∙ omega arith)
             (onward (at + 1 + 1) (cond (true && d) (count + 1) count) (passed + (at + 1 - at)) (omega arith) (positive-on d count above) on)
 
         -- the last byte is no separator
@@ -222,13 +222,13 @@ module _ (x : Syntax) (r : Reader) (s : List ℕ) (q : Countable x r s) where
       go true t onward = takes-one n at count passed few above here onward (ltb-true at (length s) t)
       go false t onward = at-end at count passed (ltb-false at (length s) t) here
 
-    told-whole : nextAllOf (readingWith x) s st r ≡ finish (pairsOf (passing x) s) (digitsIn (x .radix) s)
+    told-whole : nextAllOf (readingWith x) s st r ≡ finish (pairsOf (passing x) s) (digitsOf (x .radix) s)
     unfolding readingWith
     told-whole = go (ltb 0 (length s)) refl where
       begun : Running (readingWith x) s r st 0 0 0
       begun = rw (sym (fresh-count f r)) at (running-starts (readingWith x) s r st clear)
 
-      go : (t : Bool) → ltb 0 (length s) ≡ t → nextAllOf (readingWith x) s st r ≡ finish (pairsOf (passing x) s) (digitsIn (x .radix) s)
+      go : (t : Bool) → ltb 0 (length s) ≡ t → nextAllOf (readingWith x) s st r ≡ finish (pairsOf (passing x) s) (digitsOf (x .radix) s)
       go false t = told-so _ _ _ _ (omega arith) (omega arith) (at-end 0 0 0 (ltb-false 0 (length s) t) begun)
       go true t =
           let h = ltb-true 0 (length s) t in
@@ -237,8 +237,8 @@ module _ (x : Syntax) (r : Reader) (s : List ℕ) (q : Countable x r s) where
           let stays = stays-on-other x s (eqb 0 0) 0 h (no-separator (x .separator) (getD s 0 0) differ) in
           let on = rw (q .counts, digit) at (running-on (readingWith x) s r st clear 0 0 0 begun 0 stays h) in
           let past = pairs-past 0 h differ in
-          let first : digitsIn (x .radix) s ≡ 1 + digitsIn (x .radix) (drop 1 s) = digits-from (x .radix) s 0 h ∙ rw digit in
+          let first : digitsOf (x .radix) s ≡ 1 + digitsOf (x .radix) (drop 1 s) = digits-from (x .radix) s 0 h ∙ rw digit in
           told-so _ _ _ _ (omega arith) (omega arith) (told-from (length s) 1 1 0 (omega arith) (omega arith) on)
 
     pub ordinary-told : totalsOf r (nextAllOf (readingWith x) s st r) ≡ ordinaryTotals x s
-    ordinary-told = rw (told-whole, counted-tells st r (length s) (digitsIn (x .radix) s) (and-right (hasAnyFlag (x .flags)) (isCounted r) (q .counts)))
+    ordinary-told = rw (told-whole, counted-tells st r (length s) (digitsOf (x .radix) s) (and-right (hasAnyFlag (x .flags)) (isCounted r) (q .counts)))

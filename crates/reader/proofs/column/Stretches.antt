@@ -20,9 +20,9 @@ use Rattle.reader.specs.Place.{isSeparator}
 use Rattle.reader.specs.Reading.{Reading, readingWith}
 use Rattle.reader.specs.State.{freshOf}
 use Rattle.reader.specs.Calls.{refusalWith}
-use Rattle.reader.specs.Pairs.{hitsBefore, pairsOf}
+use Rattle.reader.specs.Code.Pairs.{hitsBefore, pairsOf}
 use Rattle.reader.specs.Column.{partFrom, boundOf, noTotals, addTotals, cellTotals, columnFrom}
-use Rattle.reader.specs.Ordinary.{Countable, Ordinary, Stretch, passing, digitsIn, ordinaryTotals}
+use Rattle.reader.specs.Code.OrdinaryCells.{Countable, Ordinary, Stretch, passing, digitsOf, ordinaryTotals}
 use Rattle.reader.proofs.passing.Places.{is-separator}
 use Rattle.reader.proofs.pairs.Counts.{at-most-one, pairs-below}
 use Rattle.reader.proofs.column.OrdinaryCell.{ordinary-told}
@@ -51,8 +51,8 @@ quick-part x r s start end h k q =
           (rw next at (sym (part-byte s start end h k (i + 1) (omega arith)) ∙ second));
     }
 
-digits-join : (radix : ℕ) (a b : List ℕ) → digitsIn radix (a ++ b) ≡ digitsIn radix a + digitsIn radix b
-digits-join radix [] b = sym (zero-add (digitsIn radix b))
+digits-join : (radix : ℕ) (a b : List ℕ) → digitsOf radix (a ++ b) ≡ digitsOf radix a + digitsOf radix b
+digits-join radix [] b = sym (zero-add (digitsOf radix b))
 digits-join radix (d ∷ a) b = omega (arith, digits-join radix a b)
 
 -- no pair lies across two parts where the first does not end with the separator
@@ -78,7 +78,7 @@ pub pairs-within : (p : Pairs) (l : List ℕ) → pairsOf p l ≤ length l
 pairs-within p [] = omega arith
 pairs-within p (b ∷ l) = omega (arith, pairs-below p (b ∷ l) (omega arith))
 
-pub digits-within : (radix : ℕ) (l : List ℕ) → digitsIn radix l ≤ length l
+pub digits-within : (radix : ℕ) (l : List ℕ) → digitsOf radix l ≤ length l
 digits-within radix [] = omega arith
 digits-within radix (b ∷ l) = omega (arith, at-most-one (isDigit b radix), digits-within radix l)
 

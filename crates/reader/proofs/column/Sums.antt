@@ -15,7 +15,7 @@ use Rattle.reader.specs.State.{freshOf}
 use Rattle.reader.specs.Answer.{numberOf}
 use Rattle.reader.specs.Calls.{refusalWith}
 use Rattle.reader.specs.Column.{partFrom, boundOf, noTotals, addTotals, cellTotals, columnFrom, ColumnOutcome, columnOf}
-use Rattle.reader.specs.Ordinary.{Stretch, passing, ordinaryTotals}
+use Rattle.reader.specs.Code.OrdinaryCells.{Stretch, passing, ordinaryTotals}
 use Rattle.reader.proofs.state.Refusals.{refusal-tells}
 use Rattle.reader.proofs.column.Cells.{part-length}
 use Rattle.reader.proofs.column.Stretches.{add-totals-assoc, column-at, digits-within, pairs-within, same-totals}

@@ -6,7 +6,7 @@ use Prim.Native.Nat.{ℕ, zero, suc, _+_, _-_, _≤_, _<_}
 use native.Mathlib.Omega.{arith}
 use lib.ListN.{length, take, drop, getD, length-drop, length-take}
 use lib.Seq.{drop-nil, drop-drop, take-all}
-use Rattle.reader.specs.Pairs.{matchesOf, pairsOf}
+use Rattle.reader.specs.Code.Pairs.{matchesOf, pairsOf}
 use Rattle.reader.specs.declared.pairs.Pairs.{Pairs}
 
 -- which kind a byte is of, told without a branch

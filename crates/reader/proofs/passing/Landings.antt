@@ -11,7 +11,7 @@ use Rattle.reader.specs.declared.rule.Neighbour.{Neighbour}
 use Rattle.reader.specs.declared.passing.Syntax.{Syntax}
 use Rattle.reader.specs.Rule.{ruleOf}
 use Rattle.word.specs.Bits.{bit}
-use Rattle.reader.specs.RuleData.{codeOf}
+use Rattle.reader.specs.Code.RuleWords.{codeOf}
 use Rattle.reader.specs.Place.{isSeparator, byteAt, after, firstOther, separatorRun, nearest}
 use Rattle.reader.specs.Reading.{readingWith, neighbourOf, previous, following, mayPass, passedAt}
 use Rattle.reader.proofs.passing.Places.{byte-here, no-byte, is-separator, runEnd, run-over}

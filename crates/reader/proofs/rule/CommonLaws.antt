@@ -8,7 +8,7 @@ use Rattle.reader.specs.declared.rule.Flags.{Flags}
 use Rattle.reader.specs.declared.rule.Neighbour.{Neighbour}
 use Rattle.reader.specs.Rule.{ruleOf, namesOf}
 use Rattle.word.specs.Bits.{bit}
-use Rattle.reader.specs.RuleData.{cellOf}
+use Rattle.reader.specs.Code.RuleWords.{cellOf}
 use Rattle.reader.proofs.rule.Table.{same, every, everyCell, everyPair, cell-at, pair-at}
 
 -- a test passes for every cell with every two neighbours

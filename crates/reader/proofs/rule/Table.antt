@@ -9,7 +9,7 @@ use Rattle.reader.specs.declared.rule.Flags.{Flags}
 use Rattle.reader.specs.declared.rule.Wanted.{Wanted}
 use Rattle.reader.specs.declared.rule.Neighbour.{Neighbour}
 use Rattle.reader.specs.Rule.{ruleOf, namesOf}
-use Rattle.reader.specs.RuleData.{cellOf, codeOf}
+use Rattle.reader.specs.Code.RuleWords.{cellOf, codeOf}
 
 pub same : (a b : Bool) → T (Bool·beq a b) → a ≡ b
 same true true t = refl

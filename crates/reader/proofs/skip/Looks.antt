@@ -7,7 +7,8 @@ use native.Mathlib.Omega.{arith}
 use lib.ListN.{length, getD}
 use Rattle.reader.specs.declared.state.State.{State}
 use Rattle.reader.specs.declared.skip.Looked.the-variants.{Byte, End, Refused}
-use Rattle.reader.specs.Answer.{lookOutcome, numberOf}
+use Rattle.reader.specs.Code.Looks.{lookOutcome}
+use Rattle.reader.specs.Answer.{numberOf}
 use Rattle.reader.specs.Calls.{seenPast, refused, peekOf, takenFrom, nextOf, readIfOf}
 use mathlib.Core.Bool.{Bool, true, false}
 use Rattle.reader.specs.declared.state.Reader.{Reader}

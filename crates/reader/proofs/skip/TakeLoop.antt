@@ -12,7 +12,8 @@ use Rattle.reader.specs.declared.state.Reader.{Reader}
 use Rattle.reader.specs.declared.state.Reader.the-variants.{Integer, Fraction, Exponent, Special}
 use Rattle.reader.specs.declared.state.State.{State}
 use Rattle.reader.specs.Reading.{Reading, hasAnyFlag, mayPass, passedAt}
-use Rattle.reader.specs.State.{isCounted, countOf, movedTo, countedBy, withCount}
+use Rattle.reader.specs.State.{isCounted, countOf, movedTo, countedBy}
+use Rattle.reader.specs.Code.TakeSums.{withCount}
 use Rattle.reader.specs.Answer.{Outcome}
 use Rattle.reader.specs.Calls.{refusalWith, takenFrom, nextOf}
 use Rattle.reader.proofs.state.Refusals.{within}

@@ -6,7 +6,8 @@ use native.Mathlib.Omega.{arith}
 use Rattle.reader.specs.declared.state.Reader.{Reader}
 use Rattle.reader.specs.declared.state.Reader.the-variants.{Integer, Fraction, Exponent, Special}
 use Rattle.reader.specs.declared.state.State.{State}
-use Rattle.reader.specs.State.{isCounted, countOf, countSum, movedTo, countedBy, withCount, sheetOf, freshOf}
+use Rattle.reader.specs.State.{isCounted, countOf, countSum, movedTo, countedBy, sheetOf, freshOf}
+use Rattle.reader.specs.Code.TakeSums.{withCount}
 use Rattle.reader.specs.Calls.{ownCount}
 use native.Mathlib.Nat.{add-zero}
 use Rattle.reader.specs.History.{countsFor}

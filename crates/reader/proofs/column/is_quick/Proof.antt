@@ -2,7 +2,7 @@
 use mathlib.Core.Path.{sym}
 use borrow.Author.Needs.{needs}
 use borrow.Author.Tests.{not-true, not-false}
-use Rattle.reader.specs.Ordinary.{isQuick}
+use Rattle.reader.specs.Code.OrdinaryCells.{isQuick}
 use Rattle.reader.proofs.column.is_quick.Statement.{statement}
 use Rattle.reader.proofs.column.is_quick.Tie as tie
 

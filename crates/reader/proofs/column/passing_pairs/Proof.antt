@@ -2,7 +2,7 @@
 -- Assumes nothing.
 use mathlib.Core.Bool.{true, false}
 use borrow.Author.Needs.{needs}
-use Rattle.reader.specs.Ordinary.{aByte, nothingBefore}
+use Rattle.reader.specs.Code.OrdinaryCells.{aByte, nothingBefore}
 use Rattle.reader.proofs.column.passing_pairs.Statement.{statement}
 use Rattle.reader.proofs.column.passing_pairs.Tie as tie
 

@@ -5,7 +5,7 @@ use Prim.Native.Nat.{_+_, _-_, _≤_}
 use native.Mathlib.Omega.{arith}
 use borrow.Author.Needs.{needs}
 use lib.ListN.{length, drop, length-take, length-drop}
-use Rattle.reader.specs.Pairs.{pairsOf}
+use Rattle.reader.specs.Code.Pairs.{pairsOf}
 use Rattle.reader.proofs.pairs.Counts.{part-most, part-turn, parts-end}
 use Rattle.reader.proofs.pairs.count_pairs.Statement.{statement}
 use Rattle.reader.proofs.pairs.count_pairs.Tie as tie

@@ -5,7 +5,7 @@ use Prim.Native.Nat.{_+_, _-_, _≤_, _<_, max}
 use native.Mathlib.Omega.{arith}
 use borrow.Author.Needs.{needs}
 use lib.ListN.{length, drop}
-use Rattle.reader.specs.Pairs.{pairsOf}
+use Rattle.reader.specs.Code.Pairs.{pairsOf}
 use Rattle.reader.proofs.pairs.Counts.{at-most-one, pair-turn, pairs-end}
 use Rattle.reader.proofs.pairs.count_short.Statement.{statement}
 use Rattle.reader.proofs.pairs.count_short.Tie as tie

@@ -3,7 +3,7 @@ use mathlib.Core.Path.{sym}
 use native.Mathlib.Omega.{arith}
 use Rattle.reader.specs.State.{movedTo}
 use Rattle.reader.specs.Reading.{readingWith}
-use Rattle.reader.specs.Answer.{LookFits}
+use Rattle.reader.specs.Code.Looks.{LookFits}
 use Rattle.reader.proofs.skip.Looks.{seen-as, takes-byte, takes-end, takes-refused}
 use borrow.Author.Needs.{needs}
 use Rattle.reader.proofs.skip.next_in.Statement.{statement}

@@ -1,5 +1,5 @@
 -- `reader::state::with_count` meets its contract. Assumes nothing.
-use Rattle.reader.specs.State.{withCount}
+use Rattle.reader.specs.Code.TakeSums.{withCount}
 use borrow.Author.Needs.{needs}
 use Rattle.reader.proofs.state.with_count.Statement.{statement}
 use Rattle.reader.proofs.state.with_count.Tie as tie

@@ -1,5 +1,5 @@
 -- The quick way through a column (crates/reader/src/column.rt): which words and cells it serves, and what it counts there. That it
--- answers the column's definition is shown in proofs/Ordinary.antt. Assumes nothing.
+-- answers the column's definition is shown in proofs/column/OrdinaryCell.antt. Assumes nothing.
 use mathlib.Core.Path.{_≡_}
 use Prim.Native.Nat.{ℕ, _+_, _-_, _<_, _≤_}
 use mathlib.Core.Bool.{Bool, true, false, cond, not, _&&_, _||_}
@@ -19,7 +19,8 @@ use Rattle.reader.specs.Place.{isSeparator}
 use Rattle.reader.specs.Reading.{readingWith, hasAnyFlag}
 use Rattle.reader.specs.State.{freshOf, isCounted}
 use Rattle.reader.specs.Calls.{refusalWith}
-use Rattle.reader.specs.Pairs.{pairsOf}
+use Rattle.reader.specs.History.{digitsIn}
+use Rattle.reader.specs.Code.Pairs.{pairsOf}
 use Rattle.reader.specs.Column.{partFrom, addTotals, columnFrom}
 
 -- The reader counts digits, the separator is no digit, and where runs are passed the buffer has none: no two separators stand side by
@@ -80,14 +81,13 @@ beforeDigits x =
     record { separator = x .separator; radix = x .radix; any = true; digits = true; separators = false; others = false }
 
 -- the digits of a list
-abbrev pub digitsIn : ℕ → List ℕ → ℕ
-digitsIn radix [] = 0
-digitsIn radix (b ∷ rest) = cond (isDigit b radix) 1 0 + digitsIn radix rest
+abbrev pub digitsOf : ℕ → List ℕ → ℕ
+digitsOf radix l = digitsIn (λ b. isDigit b radix) l
 
 -- what ordinary cells side by side add
 abbrev pub ordinaryTotals : Syntax → List ℕ → Totals
 ordinaryTotals x l =
-    record { taken = length l - pairsOf (passing x) l; passed = pairsOf (passing x) l; digits = digitsIn (x .radix) l }
+    record { taken = length l - pairsOf (passing x) l; passed = pairsOf (passing x) l; digits = digitsOf (x .radix) l }
 
 -- From the k-th cell, which begins at `start`, a stretch of ordinary cells goes up to another.
 pub record Stretch (x : Syntax) (r : Reader) (s ends : List ℕ) (k start : ℕ) (to : Reached) : Type 0 where
