@@ -227,7 +227,7 @@ fn answered(call: Call, s: &[u8], state: State, reader: Reader) -> Answer
     ensures { λ r. ⌜ outcomeOf r ≡ callOf call (now (s .entry)) state reader ⌝ }
 {
     match call {
-        Call::Peek => reader::skip::peek(s, state, reader),
+        Call::Peek => reader::skip::peek(s, state, reader).answer(),
         Call::Next => reader::skip::next(s, state, reader),
         Call::ReadIf(a, b, c, d) => {
             let wanted = ByteSet { bits: [a, b, c, d] };

@@ -9,6 +9,7 @@ use Rattle.reader.specs.declared.state.Refusal.the-variants.{CursorPastE
 use Rattle.reader.specs.declared.skip.Seen.{Seen}
 use Rattle.reader.specs.declared.skip.Seen.the-variants as seen
 use Rattle.reader.specs.declared.skip.Answer.{Answer}
+use Rattle.reader.specs.declared.skip.Peeked.{Peeked}
 use Rattle.reader.specs.declared.iterator.Read.{Read}
 use Rattle.reader.specs.declared.iterator.Read.the-variants as read
 use Rattle.reader.specs.declared.iterator.ReadAnswer.{ReadAnswer}
@@ -28,7 +29,7 @@ use Rattle.reader.specs.declared.noskip.Answer.{Answer as PlainAnswer}
 use Rattle.reader.specs.Plain.{PlainOutcome, plainNumber, plainByte, plainOutcomeOf}
 use Rattle.reader.specs.Column.{ColumnOutcome, columnOutcomeOf}
 use Rattle.reader.specs.Answer.{CountOutcome, countOutcomeOf}
-use Rattle.reader.specs.Answer.{numberOf, Outcome, seenNumber, seenByte, outcomeOf, readNumber, readByte, readOutcomeOf, SkipOutcome, skipNumber, skipZeros, skipOutcomeOf, BlockOutcome, blockNumber, blockBytes, blockOutcomeOf}
+use Rattle.reader.specs.Answer.{numberOf, Outcome, seenNumber, seenByte, outcomeOf, peekOutcomeOf, readNumber, readByte, readOutcomeOf, SkipOutcome, skipNumber, skipZeros, skipOutcomeOf, BlockOutcome, blockNumber, blockBytes, blockOutcomeOf}
 use Rattle.reader.proofs.state.Refusals.{refusal-tells}
 
 -- the refusal with a number; the last one stands for all other numbers
@@ -61,7 +62,7 @@ module _ {X : Type 0} (answered : ℕ → X) (other : X) (refused : Refusal → 
 tells : {A O : Type 0} (of : A → O) (from : O → A) → ((a : A) → from (of a) ≡ a) → (a b : A) → of a ≡ of b → a ≡ b
 tells of from back a b e = sym (back a) ∙ ap from e ∙ back b
 
--- a peek's and a take's
+-- a take's and a peek's
 abbrev seenFrom : ℕ → Option ℕ → Seen
 seenFrom = caseFrom seen.Byte seen.End seen.Refused
 
@@ -73,6 +74,12 @@ seen-back (seen.Refused e) = refused-back seen.Byte seen.End seen.Refused e
 pub outcome-tells : (a b : Answer) → outcomeOf a ≡ outcomeOf b → a ≡ b
 outcome-tells =
     tells outcomeOf
+    (λ (o : Outcome). record { report = record { seen = seenFrom (o .refusal) (o .byte); taken = o .taken; passed = o .passed }; state = o .state })
+    (λ a. ap (λ (x : Seen). record { report = record { seen = x; taken = a .report .taken; passed = a .report .passed }; state = a .state }) (seen-back (a .report .seen)))
+
+pub peek-tells : (a b : Peeked) → peekOutcomeOf a ≡ peekOutcomeOf b → a ≡ b
+peek-tells =
+    tells peekOutcomeOf
     (λ (o : Outcome). record { report = record { seen = seenFrom (o .refusal) (o .byte); taken = o .taken; passed = o .passed }; state = o .state })
     (λ a. ap (λ (x : Seen). record { report = record { seen = x; taken = a .report .taken; passed = a .report .passed }; state = a .state }) (seen-back (a .report .seen)))
 

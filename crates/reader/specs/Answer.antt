@@ -10,6 +10,7 @@ use Rattle.reader.specs.declared.state.Admission.the-variants as admissi
 use Rattle.reader.specs.declared.skip.Seen.{Seen}
 use Rattle.reader.specs.declared.skip.Seen.the-variants as seen
 use Rattle.reader.specs.declared.skip.Answer.{Answer}
+use Rattle.reader.specs.declared.skip.Peeked.{Peeked}
 use Rattle.reader.specs.declared.skip.Count.{Count}
 use Rattle.reader.specs.declared.skip.Count.the-variants as count
 use Rattle.reader.specs.declared.iterator.Read.{Read}
@@ -56,6 +57,11 @@ seenByte (seen.Refused e) = none
 
 abbrev pub outcomeOf : Answer → Outcome
 outcomeOf a =
+    record { refusal = seenNumber (a .report .seen); byte = seenByte (a .report .seen); taken = a .report .taken; passed = a .report .passed; state = a .state }
+
+-- a peek's own answer, which says the same
+abbrev pub peekOutcomeOf : Peeked → Outcome
+peekOutcomeOf a =
     record { refusal = seenNumber (a .report .seen); byte = seenByte (a .report .seen); taken = a .report .taken; passed = a .report .passed; state = a .state }
 
 -- a conditional read's answer: the byte taken, declined, or a refusal

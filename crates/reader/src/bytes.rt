@@ -1,13 +1,14 @@
 // `Bytes`: the caller's slice, kept beside the cursor's state. After lexical-util's Bytes. Each function takes the struct apart and
 // calls one on the slice and the state, which has the work; so the proofs here are walks by hand (proofs/bytes), and short.
 ghost use mathlib.Core.Path.{_≡_};
-ghost use Rattle.reader.specs.Answer.{outcomeOf, readOutcomeOf, skipOutcomeOf, blockOutcomeOf, countOutcomeOf};
+ghost use Rattle.reader.specs.Answer.{outcomeOf, peekOutcomeOf, readOutcomeOf, skipOutcomeOf, blockOutcomeOf, countOutcomeOf};
 ghost use Rattle.reader.specs.Block.{BlockPart};
 ghost use Rattle.reader.specs.Bytes.{bytesOver, Rest, countBytes, peekBytes, nextBytes, nextAllBytes, readBytes, skipBytes, takeNBytes, wholeOutcome};
 use crate::iterator::ReadReport;
 use crate::iterator::SkipReport;
 use crate::skip::BlockReport;
 use crate::skip::Count;
+use crate::skip::PeekReport;
 use crate::skip::Report;
 use crate::state::Reader;
 use crate::state::State;
@@ -73,8 +74,8 @@ impl<'a> Bytes<'a> {
         crate::skip::take_n_part(self.slc, self.state, reader, n)
     }
 
-    pub fn peek(&mut self, reader: Reader) -> Report
-        ensures { λ t. ⌜ (outcomeOf (record { report = t; state = now (self .exit) .state }) ≡ peekBytes (now (self .entry)) reader) × (now (self .exit) .slc ≡ now (self .entry) .slc) ⌝ }
+    pub fn peek(&mut self, reader: Reader) -> PeekReport
+        ensures { λ t. ⌜ (peekOutcomeOf (record { report = t; state = now (self .exit) .state }) ≡ peekBytes (now (self .entry)) reader) × (now (self .exit) .slc ≡ now (self .entry) .slc) ⌝ }
     {
         let answer = crate::skip::peek(self.slc, self.state, reader);
         self.state = answer.state;

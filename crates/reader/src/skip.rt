@@ -11,7 +11,7 @@ ghost use Rattle.reader.specs.Reading.{readingWith, readingFor, hasAnyFl
 ghost use Rattle.reader.specs.State.{countOf, countSum};
 ghost use Rattle.reader.specs.Code.Looks.{lookOutcome, LookFits};
 ghost use Rattle.reader.specs.Code.TakeSums.{sumsOutcome};
-ghost use Rattle.reader.specs.Answer.{outcomeOf, countOutcomeOf, blockOutcomeOf};
+ghost use Rattle.reader.specs.Answer.{outcomeOf, peekOutcomeOf, countOutcomeOf, blockOutcomeOf};
 ghost use Rattle.reader.specs.Calls.{peekOf, nextOf, nextAllOf, takenFrom, shownCount, currentCountOf, peeked, refusalWith};
 ghost use Rattle.reader.specs.Block.{blockFrom, takeNOf, BlockPart};
 use crate::passing::Syntax;
@@ -50,6 +50,18 @@ pub struct Report {
 
 pub struct Answer {
     pub report: Report,
+    pub state: State,
+}
+
+// A peek's answer without the state, likewise.
+pub struct PeekReport {
+    pub seen: Seen,
+    pub taken: usize,
+    pub passed: usize,
+}
+
+pub struct Peeked {
+    pub report: PeekReport,
     pub state: State,
 }
 
@@ -143,21 +155,44 @@ fn answered(seen: Seen, taken: usize, passed: usize, state: State) -> Answer
     Answer { report, state }
 }
 
+impl Peeked {
+    // The same as a take would answer it.
+    pub fn answer(self) -> Answer
+        ensures { λ r. ⌜ outcomeOf r ≡ peekOutcomeOf self ⌝ }
+    {
+        let report = self.report;
+        let seen = report.seen;
+        answered(seen, report.taken, report.passed, self.state)
+    }
+}
+
+// A peek takes nothing.
+fn peek_answered(seen: Seen, passed: usize, state: State) -> Peeked
+    ensures { λ r. ⌜ r ≡ record { report = record { seen = seen; taken = 0; passed = passed }; state = state } ⌝ }
+{
+    let report = PeekReport {
+        seen,
+        taken: 0,
+        passed,
+    };
+    Peeked { report, state }
+}
+
 // A peek given the reader's syntax.
-fn peek_in(s: &[u8], state: State, syntax: Syntax, reader: Reader) -> Answer
-    ensures { λ r. ⌜ outcomeOf r ≡ peekOf (readingWith syntax) (now (s .entry)) state reader ⌝ }
+fn peek_in(s: &[u8], state: State, syntax: Syntax, reader: Reader) -> Peeked
+    ensures { λ r. ⌜ peekOutcomeOf r ≡ peekOf (readingWith syntax) (now (s .entry)) state reader ⌝ }
 {
     let looked = look(s, state, syntax, reader);
     match looked {
-        Looked::Byte(b, place, passed) => answered(Seen::Byte(b), 0, passed, moved(state, place)),
-        Looked::End(place, passed) => answered(Seen::End, 0, passed, moved(state, place)),
-        Looked::Refused(refusal) => answered(Seen::Refused(refusal), 0, 0, state),
+        Looked::Byte(b, place, passed) => peek_answered(Seen::Byte(b), passed, moved(state, place)),
+        Looked::End(place, passed) => peek_answered(Seen::End, passed, moved(state, place)),
+        Looked::Refused(refusal) => peek_answered(Seen::Refused(refusal), 0, state),
     }
 }
 
 // The byte under the cursor, after passing what the reader may pass.
-pub fn peek(s: &[u8], state: State, reader: Reader) -> Answer
-    ensures { λ r. ⌜ outcomeOf r ≡ peekOf (readingFor state reader) (now (s .entry)) state reader ⌝ }
+pub fn peek(s: &[u8], state: State, reader: Reader) -> Peeked
+    ensures { λ r. ⌜ peekOutcomeOf r ≡ peekOf (readingFor state reader) (now (s .entry)) state reader ⌝ }
 {
     let syntax = syntax_for(state, reader);
     peek_in(s, state, syntax, reader)

@@ -173,7 +173,7 @@ fn made(kind: u8, s: &[u8], state: State, who: Reader, value: u8) -> Repeated
     ensures { λ r. ⌜ r ≡ answerTo kind (readingFor state who) (now (s .entry)) state who value ⌝ }
 {
     match kind {
-        0 => Repeated::Packed(pack(peek(s, state, who))),
+        0 => Repeated::Packed(pack(peek(s, state, who).answer())),
         1 => Repeated::Packed(pack(next(s, state, who))),
         2 => Repeated::Packed(pack_read(read_if_value_cased(s, state, who, value))),
         3 => Repeated::Packed(pack(next_all(s, state, who))),

@@ -1,6 +1,7 @@
--- The answers of the calls, and what they may have beside the reader, as the walks ask them (proofs/Shape.antt, proofs/ShapeWith.antt). Assumes nothing.
+-- The answers of the calls, and what they may have beside the reader, as the walks ask them (LentCall, LentCallWith). Assumes nothing.
 use mathlib.Core.Path.{refl}
 use Rattle.reader.specs.declared.skip.Answer.{Answer}
+use Rattle.reader.specs.declared.skip.Peeked.{Peeked}
 use Rattle.reader.specs.declared.iterator.SkipAnswer.{SkipAnswer}
 use Rattle.reader.specs.declared.iterator.ReadAnswer.{ReadAnswer}
 use Rattle.reader.specs.declared.skip.BlockAnswer.{BlockAnswer}
@@ -11,26 +12,44 @@ use Rattle.reader.proofs.bytes.LentCallWith.{ArgType}
 use Rattle.word.proofs.byte_set.ByteSet as set
 use Rattle.word.proofs.byte_set.ByteSet.Laws as set′
 use Rattle.reader.proofs.iterator.ReadAnswer as read
-use Rattle.reader.proofs.iterator.ReadReport as read-told
-use Rattle.reader.proofs.iterator.ReadReport.Laws as read-told′
+use Rattle.reader.proofs.iterator.ReadReport as read-report
+use Rattle.reader.proofs.iterator.ReadReport.Laws as read-report′
 use Rattle.reader.proofs.skip.BlockAnswer as block
-use Rattle.reader.proofs.skip.BlockReport as block-told
-use Rattle.reader.proofs.skip.BlockReport.Laws as block-told′
+use Rattle.reader.proofs.skip.BlockReport as block-report
+use Rattle.reader.proofs.skip.BlockReport.Laws as block-report′
 use Rattle.reader.proofs.skip.Answer as answer
 use Rattle.reader.proofs.skip.Report as report
-use Rattle.reader.proofs.skip.Report.Laws as told′
+use Rattle.reader.proofs.skip.Report.Laws as report′
+use Rattle.reader.proofs.skip.Peeked as peeked
+use Rattle.reader.proofs.skip.PeekReport as peek-report
+use Rattle.reader.proofs.skip.PeekReport.Laws as peek-report′
 use Rattle.reader.proofs.iterator.SkipAnswer as skip
-use Rattle.reader.proofs.iterator.SkipReport as skip-told
-use Rattle.reader.proofs.iterator.SkipReport.Laws as skip-told′
+use Rattle.reader.proofs.iterator.SkipReport as skip-report
+use Rattle.reader.proofs.iterator.SkipReport.Laws as skip-report′
 
 abbrev pub answers : AnswerType
 answers = record {
   name = answer.struct .name;
   Ans = Answer;
   TT = report.the-type;
-  TL = told′.the-laws;
-  low = told′.lowers;
-  pl = told′.the-plain;
+  TL = report′.the-laws;
+  low = report′.lowers;
+  pl = report′.the-plain;
+  report = λ a. a .report;
+  state = λ a. a .state;
+  make = λ t s. record { report = t; state = s };
+  eta = λ a. refl;
+  beta = λ v. refl;
+}
+
+abbrev pub peek-answers : AnswerType
+peek-answers = record {
+  name = peeked.struct .name;
+  Ans = Peeked;
+  TT = peek-report.the-type;
+  TL = peek-report′.the-laws;
+  low = peek-report′.lowers;
+  pl = peek-report′.the-plain;
   report = λ a. a .report;
   state = λ a. a .state;
   make = λ t s. record { report = t; state = s };
@@ -42,10 +61,10 @@ abbrev pub skip-answers : AnswerType
 skip-answers = record {
   name = skip.struct .name;
   Ans = SkipAnswer;
-  TT = skip-told.the-type;
-  TL = skip-told′.the-laws;
-  low = skip-told′.lowers;
-  pl = skip-told′.the-plain;
+  TT = skip-report.the-type;
+  TL = skip-report′.the-laws;
+  low = skip-report′.lowers;
+  pl = skip-report′.the-plain;
   report = λ a. a .report;
   state = λ a. a .state;
   make = λ t s. record { report = t; state = s };
@@ -57,10 +76,10 @@ abbrev pub read-answers : AnswerType
 read-answers = record {
   name = read.struct .name;
   Ans = ReadAnswer;
-  TT = read-told.the-type;
-  TL = read-told′.the-laws;
-  low = read-told′.lowers;
-  pl = read-told′.the-plain;
+  TT = read-report.the-type;
+  TL = read-report′.the-laws;
+  low = read-report′.lowers;
+  pl = read-report′.the-plain;
   report = λ a. a .report;
   state = λ a. a .state;
   make = λ t s. record { report = t; state = s };
@@ -72,10 +91,10 @@ abbrev pub block-answers : AnswerType
 block-answers = record {
   name = block.struct .name;
   Ans = BlockAnswer;
-  TT = block-told.the-type;
-  TL = block-told′.the-laws;
-  low = block-told′.lowers;
-  pl = block-told′.the-plain;
+  TT = block-report.the-type;
+  TL = block-report′.the-laws;
+  low = block-report′.lowers;
+  pl = block-report′.the-plain;
   report = λ a. a .report;
   state = λ a. a .state;
   make = λ t s. record { report = t; state = s };

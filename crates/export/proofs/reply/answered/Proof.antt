@@ -11,6 +11,9 @@ enum-told c = search needs
 peek-requires : tie.Need-peek-requires
 peek-requires c κs = search needs
 
+answer-requires : tie.Need-answer-requires
+answer-requires c κs = search needs
+
 enum-told-2 : tie.Need-enum-told-2
 enum-told-2 c = search needs
 
@@ -37,7 +40,7 @@ answer-of-read-requires-2 c κs = search needs
 
 returns : tie.Need-returns
 unfolding callOf
-returns c = rw (c .before .enum-told .given .1) (c .peek .ensures)
+returns c = rw (c .before .before .enum-told .given .1) (c .answer .ensures ∙ c .before .peek .ensures)
 
 returns-2 : tie.Need-returns-2
 unfolding callOf
@@ -57,6 +60,7 @@ answered-spec =
     (tie.spec
     enum-told
     peek-requires
+    answer-requires
     enum-told-2
     next-requires
     enum-known-call

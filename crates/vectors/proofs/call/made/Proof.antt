@@ -10,6 +10,9 @@ use Rattle.vectors.proofs.call.made.Tie as tie
 peek-requires : tie.Need-peek-requires
 peek-requires c κs = search needs
 
+answer-requires : tie.Need-answer-requires
+answer-requires c κs = search needs
+
 pack-requires : tie.Need-pack-requires
 pack-requires c κs = search needs
 
@@ -51,7 +54,9 @@ pack-part-requires c κs = search needs
 
 returns : tie.Need-returns
 unfolding answerTo
-returns c = rw (c .before .before .match .keys1) (ap Packed (c .pack .ensures ∙ ap packedOutcome (c .before .peek .ensures)))
+returns c =
+    rw (c .before .before .before .match .keys1)
+    (ap Packed (c .pack .ensures ∙ ap packedOutcome (c .before .answer .ensures ∙ c .before .before .peek .ensures)))
 
 returns-2 : tie.Need-returns-2
 unfolding answerTo
@@ -96,6 +101,7 @@ made-spec =
     tie.close
     (tie.spec
     peek-requires
+    answer-requires
     pack-requires
     next-requires
     pack-requires-2
