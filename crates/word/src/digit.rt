@@ -3,7 +3,7 @@ ghost use mathlib.Core.Path.{_≡_};
 ghost use lib.Dec.{ltb};
 ghost use lib.ListN.{getD};
 ghost use Prim.Native.Nat.{_-_, min};
-ghost use Rattle.word.specs.Digit.{isDigit};
+ghost use Rattle.word.specs.Digit.{digitValue, valueOf, isDigit};
 
 // The value of each byte: 0 to 9 for the figures, 10 to 35 for the letters of either case, 255 for none.
 pub const VALUES: [u8; 256] = [
@@ -264,6 +264,24 @@ pub const VALUES: [u8; 256] = [
     255,
     255,
 ];
+
+// A byte's value, whatever the radix.
+pub enum DigitValue {
+    Value(u8),
+    NoValue,
+}
+
+// The byte's entry in the table, with 255 told apart.
+pub fn digit_value(c: u8) -> DigitValue
+    ensures { λ r. ⌜ valueOf r ≡ digitValue c ⌝ }
+{
+    let values = VALUES;
+    let value = values[c as usize];
+    if value == 255 {
+        return DigitValue::NoValue;
+    }
+    DigitValue::Value(value)
+}
 
 fn wide(value: u8) -> u32
     ensures { λ r. ⌜ r ≡ value ⌝ }
