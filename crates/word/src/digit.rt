@@ -304,7 +304,7 @@ pub fn char_is_digit_const(c: u8, radix: u32) -> bool
     char_is_digit_in(&values, c, radix)
 }
 
-fn smaller(a: u8, b: u8) -> u8
+fn min_u8(a: u8, b: u8) -> u8
     ensures { λ r. ⌜ r ≡ min a b ⌝ }
 {
     if a < b { a } else { b }
@@ -314,7 +314,7 @@ fn smaller(a: u8, b: u8) -> u8
 fn letters_of(radix: u8) -> u8
     ensures { λ r. ⌜ r ≡ min (radix - 10) 26 ⌝ }
 {
-    smaller(radix, 36) - smaller(radix, 10)
+    min_u8(radix, 36) - min_u8(radix, 10)
 }
 
 // The same test by the ranges of figures and letters, for loops over bytes: it reads no table, which the language would store to the
@@ -328,5 +328,5 @@ pub fn char_is_digit_by_range(c: u8, radix: u8) -> bool
         return figure < radix;
     }
     let letter = std::num::wrapping_sub_u8(c | 32, 97);
-    (figure < smaller(radix, 10)) | (letter < letters_of(radix))
+    (figure < min_u8(radix, 10)) | (letter < letters_of(radix))
 }
