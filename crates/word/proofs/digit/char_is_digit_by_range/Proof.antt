@@ -2,7 +2,7 @@
 -- Assumes nothing.
 use native.Mathlib.Omega.{arith}
 use borrow.Author.Needs.{needs}
-use Rattle.word.proofs.Ranges.{told-by-range, told-by-figure}
+use Rattle.word.proofs.digit.Ranges.{told-by-range, told-by-figure}
 use Rattle.word.proofs.digit.char_is_digit_by_range.Statement.{statement}
 use Rattle.word.proofs.digit.char_is_digit_by_range.Tie as tie
 

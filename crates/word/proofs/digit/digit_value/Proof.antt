@@ -2,7 +2,7 @@
 -- Assumes nothing.
 use borrow.Author.Needs.{needs}
 use Rattle.word.specs.Digit.{digitTable, digitValue}
-use Rattle.word.proofs.Digits.{none-told, value-told}
+use Rattle.word.proofs.digit.Table.{none-told, value-told}
 use Rattle.word.proofs.digit.digit_value.Statement.{statement}
 use Rattle.word.proofs.digit.digit_value.Tie as tie
 

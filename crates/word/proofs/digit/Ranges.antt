@@ -1,5 +1,5 @@
--- A digit told by the ranges of figures and letters: the distance of a byte from `0`, and of its small letter from `a`, both modulo
--- 256, are below the number of figures or letters exactly where the definition says so. Assumes nothing.
+-- A digit told by the ranges of figures and letters, for `char_is_digit_by_range`: the distance of a byte from `0`, and of its small
+-- letter from `a`, both modulo 256, are below the number of figures or letters exactly where the definition says so. Assumes nothing.
 use mathlib.Core.Path.{_≡_, _∙_, refl, sym, ap}
 use mathlib.Core.Bool.{Bool, true, false, cond, _&&_, _||_}
 use Prim.Native.Nat.{ℕ, zero, suc, _+_, _-_, _%_, _^_, _<_, _≤_, min}
@@ -10,7 +10,7 @@ use mathlib.Core.Option.{Option, some, none}
 use lib.Bits.{bitOr}
 use lib.Dec.{eqb, ltb, leb}
 use Rattle.word.specs.Digit.{among, digitValue, isDigit, below}
-use Rattle.word.proofs.Digits.{up-to}
+use Rattle.word.proofs.digit.Table.{up-to}
 
 -- the two distances
 abbrev figure : ℕ → ℕ

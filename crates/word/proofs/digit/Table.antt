@@ -1,4 +1,5 @@
--- The table of values holds each byte's own, so a test against the table is the test of the definition. Assumes nothing.
+-- The table of values holds each byte's own, so what is read from it is what the definition says: for every function that has a
+-- table or is lent one. Assumes nothing.
 use mathlib.Core.Path.{_≡_, _∙_, sym, ap, refl}
 use mathlib.Core.Bool.{Bool, true, false, _&&_}
 use mathlib.Core.List.{List}
