@@ -47,9 +47,9 @@ no-value : (c : ℕ) → entry (digitValue c) ≡ 255 → digitValue c ≡ none
 unfolding digitValue
 no-value c e = go (among 48 57 c) (among 65 90 c) (among 97 122 c) refl refl refl where
   go : (x y z : Bool) → among 48 57 c ≡ x → among 65 90 c ≡ y → among 97 122 c ≡ z → digitValue c ≡ none
-  go true y z p q r = absurd (let large : c - 48 ≡ 255 = rw p at e in omega (arith, up-to 48 57 c p))
-  go false true z p q r = absurd (let large : c - 65 + 10 ≡ 255 = rw (p, q) at e in omega (arith, up-to 65 90 c q))
-  go false false true p q r = absurd (let large : c - 97 + 10 ≡ 255 = rw (p, q, r) at e in omega (arith, up-to 97 122 c r))
+  go true y z p q r = absurd (let large = rw p at e in omega (arith, up-to 48 57 c p))
+  go false true z p q r = absurd (let large = rw (p, q) at e in omega (arith, up-to 65 90 c q))
+  go false false true p q r = absurd (let large = rw (p, q, r) at e in omega (arith, up-to 97 122 c r))
   go false false false p q r = rw (p, q, r)
 
 a-value : (v : Option ℕ) → (entry v ≡ 255 → ⊥) → some (entry v) ≡ v
