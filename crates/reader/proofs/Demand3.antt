@@ -7,7 +7,7 @@ use Prim.Native.Nat.{ℕ, _<_}
 use native.Mathlib.Omega.{arith}
 use Rattle.word.specs.Word.{flag, digitSeparator, mantissaRadix}
 use Rattle.word.specs.Check.{consecutiveAlone, fullCheck}
-use Rattle.word.proofs.Accepted.{separator-no-digit, none-alone}
+use Rattle.word.proofs.feature_format.Accepted.{separator-no-digit, none-alone}
 use Rattle.reader.specs.declared.state.Reader.{Reader}
 use Rattle.reader.specs.declared.state.Reader.the-variants.{Integer, Fraction, Exponent, Special}
 use Rattle.reader.specs.declared.rule.Neighbour.{Neighbour}

@@ -44,7 +44,7 @@ pub struct Reached {
     pub at: usize,
 }
 
-fn smaller(a: usize, b: usize) -> usize
+fn min_usize(a: usize, b: usize) -> usize
     ensures { λ r. ⌜ r ≡ min a b ⌝ }
 {
     if a < b { a } else { b }
@@ -55,9 +55,9 @@ fn bound_of(size: usize, start: usize, end: usize) -> usize
     ensures { λ r. ⌜ r ≡ min (max end start) size ⌝ }
 {
     if end < start {
-        return smaller(start, size);
+        return min_usize(start, size);
     }
-    smaller(end, size)
+    min_usize(end, size)
 }
 
 fn add_totals(a: Totals, b: Totals) -> Totals

@@ -1,9 +1,5 @@
-pub mod Halves
-pub mod Digits
-pub mod Ranges
+-- In the order in which to read, which is document 01's: digit (Table, Ranges), Masks, format_flags (Halves), Lines, feature_format
+-- (Accepted), byte_set (Members), not_feature_format (Line7), error (Numbers). A room has the laws of the module of its name; here
+-- stands what several rooms or another crate cite.
+mod Masks
 pub mod Lines
-pub mod Masks
-pub mod Members
-pub mod Numbers
-pub mod Plain
-pub mod Accepted

@@ -1,4 +1,5 @@
--- Laws of a check as a list of lines: the first line of a list, and two lists joined. Assumes nothing.
+-- Laws of a check as a list of lines, for both checks and for the reader's refusals: the first line of a list, and two lists joined.
+-- Assumes nothing.
 use mathlib.Core.Path.{_≡_, refl}
 use mathlib.Core.Bool.{Bool, true, false, cond, not}
 use mathlib.Core.List.{List, [], _∷_, _++_}

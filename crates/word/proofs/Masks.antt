@@ -1,4 +1,4 @@
--- One bit, shifted to any place of 64, and the places past 64 bits. Assumes nothing.
+-- One bit, shifted to any place of 64, and the places past 64 bits: for `bits_at`, `bit_at` and `ByteSet::insert`. Assumes nothing.
 use mathlib.Core.Path.{_≡_, _∙_}
 use mathlib.Core.Bool.{false}
 use Prim.Native.Nat.{ℕ, _*_, _%_, _^_, _<_, _≤_}

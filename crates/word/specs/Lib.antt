@@ -1,7 +1,7 @@
-pub mod Bits
-pub mod Word
 pub mod Digit
 pub mod Ascii
-pub mod Error
+pub mod Bits
+pub mod Word
 pub mod Check
 pub mod ByteSet
+pub mod Error

@@ -3,7 +3,7 @@ ghost use mathlib.Core.Path.{_≡_};
 ghost use lib.Dec.{ltb};
 ghost use lib.ListN.{getD};
 ghost use Prim.Native.Nat.{_-_, min};
-ghost use Rattle.word.specs.Digit.{isDigit};
+ghost use Rattle.word.specs.Digit.{digitValue, valueOf, isDigit};
 
 // The value of each byte: 0 to 9 for the figures, 10 to 35 for the letters of either case, 255 for none.
 pub const VALUES: [u8; 256] = [
@@ -265,6 +265,24 @@ pub const VALUES: [u8; 256] = [
     255,
 ];
 
+// A byte's value, whatever the radix.
+pub enum DigitValue {
+    Value(u8),
+    NoValue,
+}
+
+// The byte's entry in the table, with 255 told apart.
+pub fn digit_value(c: u8) -> DigitValue
+    ensures { λ r. ⌜ valueOf r ≡ digitValue c ⌝ }
+{
+    let values = VALUES;
+    let value = values[c as usize];
+    if value == 255 {
+        return DigitValue::NoValue;
+    }
+    DigitValue::Value(value)
+}
+
 fn wide(value: u8) -> u32
     ensures { λ r. ⌜ r ≡ value ⌝ }
 {
@@ -286,7 +304,7 @@ pub fn char_is_digit_const(c: u8, radix: u32) -> bool
     char_is_digit_in(&values, c, radix)
 }
 
-fn smaller(a: u8, b: u8) -> u8
+fn min_u8(a: u8, b: u8) -> u8
     ensures { λ r. ⌜ r ≡ min a b ⌝ }
 {
     if a < b { a } else { b }
@@ -296,7 +314,7 @@ fn smaller(a: u8, b: u8) -> u8
 fn letters_of(radix: u8) -> u8
     ensures { λ r. ⌜ r ≡ min (radix - 10) 26 ⌝ }
 {
-    smaller(radix, 36) - smaller(radix, 10)
+    min_u8(radix, 36) - min_u8(radix, 10)
 }
 
 // The same test by the ranges of figures and letters, for loops over bytes: it reads no table, which the language would store to the
@@ -310,5 +328,5 @@ pub fn char_is_digit_by_range(c: u8, radix: u8) -> bool
         return figure < radix;
     }
     let letter = std::num::wrapping_sub_u8(c | 32, 97);
-    (figure < smaller(radix, 10)) | (letter < letters_of(radix))
+    (figure < min_u8(radix, 10)) | (letter < letters_of(radix))
 }

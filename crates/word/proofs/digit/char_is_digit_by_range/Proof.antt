@@ -2,7 +2,7 @@
 -- Assumes nothing.
 use native.Mathlib.Omega.{arith}
 use borrow.Author.Needs.{needs}
-use Rattle.word.proofs.Ranges.{told-by-range, told-by-figure}
+use Rattle.word.proofs.digit.Ranges.{told-by-range, told-by-figure}
 use Rattle.word.proofs.digit.char_is_digit_by_range.Statement.{statement}
 use Rattle.word.proofs.digit.char_is_digit_by_range.Tie as tie
 
@@ -18,8 +18,8 @@ returns c =
 wrapping-sub-u8-requires-2 : tie.Need-wrapping-sub-u8-requires-2
 wrapping-sub-u8-requires-2 c κs = search needs
 
-smaller-requires : tie.Need-smaller-requires
-smaller-requires c κs = search needs
+min-u8-requires : tie.Need-min-u8-requires
+min-u8-requires c κs = search needs
 
 letters-of-requires : tie.Need-letters-of-requires
 letters-of-requires c κs = search needs
@@ -29,7 +29,7 @@ returns-2 c =
     let l = c .before .before in
     let s = l .before .before in
     let a = s .before .args in
-    rw (c .before .smaller .ensures, c .letters-of .ensures)
+    rw (c .before .min-u8 .ensures, c .letters-of .ensures)
     (told-by-range (a .c) (a .radix) _ _ (search needs) (search needs) (omega (arith, s .wrapping-sub-u8 .ensures)) (omega (arith, l .wrapping-sub-u82 .ensures)))
 
 pub char-is-digit-by-range-spec : {M : Type 1} → statement M
@@ -39,6 +39,6 @@ char-is-digit-by-range-spec =
     wrapping-sub-u8-requires
     returns
     wrapping-sub-u8-requires-2
-    smaller-requires
+    min-u8-requires
     letters-of-requires
     returns-2)

@@ -3,7 +3,7 @@
 use mathlib.Core.Path.{_∙_}
 use borrow.Author.Needs.{needs}
 use Rattle.word.specs.Digit.{digitTable, digitValue}
-use Rattle.word.proofs.Digits.{table-holds}
+use Rattle.word.proofs.digit.Table.{table-holds}
 use Rattle.word.proofs.digit.char_is_digit_const.Statement.{statement}
 use Rattle.word.proofs.digit.char_is_digit_const.Tie as tie
 

@@ -1,5 +1,5 @@
 use mathlib.Core.Path.{_∙_}
-use Rattle.word.proofs.Halves.{high-half}
+use Rattle.word.proofs.format_flags.Halves.{high-half}
 use borrow.Author.Needs.{needs}
 use Rattle.word.proofs.format_flags.byte_at.Statement.{statement}
 use Rattle.word.proofs.format_flags.byte_at.Tie as tie

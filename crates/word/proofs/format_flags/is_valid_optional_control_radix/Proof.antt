@@ -1,6 +1,6 @@
 -- `word::format_flags::is_valid_optional_control_radix` meets its contract: the lent table is the table of values. Assumes nothing.
 use Rattle.word.specs.Check.{validControlIn}
-use Rattle.word.proofs.Digits.{lent-table}
+use Rattle.word.proofs.digit.Table.{lent-table}
 use borrow.Author.Needs.{needs}
 use Rattle.word.proofs.format_flags.is_valid_optional_control_radix.Statement.{statement}
 use Rattle.word.proofs.format_flags.is_valid_optional_control_radix.Tie as tie

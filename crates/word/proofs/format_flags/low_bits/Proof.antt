@@ -1,5 +1,5 @@
 use mathlib.Core.Path.{_∙_}
-use Rattle.word.proofs.Halves.{low-half}
+use Rattle.word.proofs.format_flags.Halves.{low-half}
 use borrow.Author.Needs.{needs}
 use Rattle.word.proofs.format_flags.low_bits.Statement.{statement}
 use Rattle.word.proofs.format_flags.low_bits.Tie as tie

@@ -2,7 +2,7 @@
 use Prim.Native.Nat.{_%_}
 use Rattle.word.specs.ByteSet.{member}
 use Rattle.word.proofs.Masks.{one-shifted}
-use Rattle.word.proofs.Members.{inserted}
+use Rattle.word.proofs.byte_set.Members.{inserted}
 use borrow.Author.Needs.{needs}
 use Rattle.word.proofs.byte_set.ByteSet.insert.Statement.{statement}
 use Rattle.word.proofs.byte_set.ByteSet.insert.Tie as tie

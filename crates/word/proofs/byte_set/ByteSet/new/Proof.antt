@@ -1,7 +1,7 @@
 -- `word::byte_set::ByteSet::new` meets its contract. Assumes nothing.
 use Prim.Native.Nat.{_/_, _%_}
 use Rattle.word.specs.ByteSet.{member}
-use Rattle.word.proofs.Members.{no-bits, zero-bit}
+use Rattle.word.proofs.byte_set.Members.{no-bits, zero-bit}
 use Rattle.word.proofs.byte_set.ByteSet.new.Statement.{statement}
 use Rattle.word.proofs.byte_set.ByteSet.new.Tie as tie
 

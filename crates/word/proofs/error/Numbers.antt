@@ -1,4 +1,4 @@
--- An answer's number tells the answer, so a contract that gives the number gives the whole answer. Assumes nothing.
+-- A theorem: an answer's number tells the answer, so a contract that gives the number gives the whole answer. Assumes nothing.
 use mathlib.Core.Path.{_≡_, _∙_, refl, sym, ap}
 use Prim.Native.Nat.{ℕ}
 use mathlib.Core.Bool.{cond}

@@ -1,4 +1,4 @@
--- Members of a set of bytes: of the empty set, and of a set with one more byte. Assumes nothing.
+-- Members of the empty set of bytes, for `ByteSet::new`, and of a set with one more byte, for `insert`. Assumes nothing.
 use mathlib.Core.Path.{_≡_, _∙_, refl, sym, ap, ap₂}
 use mathlib.Core.Bool.{Bool, true, false, _||_}
 use mathlib.Core.List.{List, [], _∷_}

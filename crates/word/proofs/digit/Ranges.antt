@@ -1,5 +1,5 @@
--- A digit told by the ranges of figures and letters: the distance of a byte from `0`, and of its small letter from `a`, both modulo
--- 256, are below the number of figures or letters exactly where the definition says so. Assumes nothing.
+-- A digit told by the ranges of figures and letters, for `char_is_digit_by_range`: the distance of a byte from `0`, and of its small
+-- letter from `a`, both modulo 256, are below the number of figures or letters exactly where the definition says so. Assumes nothing.
 use mathlib.Core.Path.{_≡_, _∙_, refl, sym, ap}
 use mathlib.Core.Bool.{Bool, true, false, cond, _&&_, _||_}
 use Prim.Native.Nat.{ℕ, zero, suc, _+_, _-_, _%_, _^_, _<_, _≤_, min}
@@ -10,6 +10,7 @@ use mathlib.Core.Option.{Option, some, none}
 use lib.Bits.{bitOr}
 use lib.Dec.{eqb, ltb, leb}
 use Rattle.word.specs.Digit.{among, digitValue, isDigit, below}
+use Rattle.word.proofs.digit.Table.{up-to}
 
 -- the two distances
 abbrev figure : ℕ → ℕ
@@ -89,19 +90,19 @@ module _ (c radix f l : ℕ) (byte : c < 256) (small : radix < 256) where
         let w = rw p at e in
         let same = eqb-true (figure c) (c - 48) (left (eqb (figure c) (c - 48)) (leb 26 (letter c)) w) in
         let far = leb-true 26 (letter c) (right (eqb (figure c) (c - 48)) (leb 26 (letter c)) w) in
-        let last = leb-true c 57 (right (leb 48 c) (leb c 57) p) in
+        let last = up-to 48 57 c p in
         rw p (figure-told radix (figure c) (letter c) (omega arith) far ∙ ap (λ (n : ℕ). ltb n radix) same)
     go false true z p q r e =
         let w = rw (p, q) at e in
         let far = leb-true 10 (figure c) (left (leb 10 (figure c)) (eqb (letter c) (c - 65)) w) in
         let same = eqb-true (letter c) (c - 65) (right (leb 10 (figure c)) (eqb (letter c) (c - 65)) w) in
-        let last = leb-true c 90 (right (leb 65 c) (leb c 90) q) in
+        let last = up-to 65 90 c q in
         rw (p, q) (letter-told radix (figure c) (letter c) far (omega arith) ∙ ap (λ (n : ℕ). ltb (n + 10) radix) same)
     go false false true p q r e =
         let w = rw (p, q, r) at e in
         let far = leb-true 10 (figure c) (left (leb 10 (figure c)) (eqb (letter c) (c - 97)) w) in
         let same = eqb-true (letter c) (c - 97) (right (leb 10 (figure c)) (eqb (letter c) (c - 97)) w) in
-        let last = leb-true c 122 (right (leb 97 c) (leb c 122) r) in
+        let last = up-to 97 122 c r in
         rw (p, q, r) (letter-told radix (figure c) (letter c) far (omega arith) ∙ ap (λ (n : ℕ). ltb (n + 10) radix) same)
     go false false false p q r e =
         let w = rw (p, q, r) at e in

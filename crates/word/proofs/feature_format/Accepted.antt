@@ -1,5 +1,5 @@
--- What a word has that the full check accepts: its separator is no digit (line 4), and no reader has the consecutive flag alone
--- (lines 12 to 14). Assumes nothing.
+-- What a word has that the full check accepts, for demand 3 of the reader: its separator is no digit (line 4), and no reader has the
+-- consecutive flag alone (lines 12 to 14). Assumes nothing.
 use mathlib.Core.Path.{_≡_, refl}
 use mathlib.Core.Bool.{Bool, true, false, cond, not, _&&_, _||_}
 use mathlib.Core.List.{List, [], _∷_, _++_}

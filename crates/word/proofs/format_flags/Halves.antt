@@ -1,4 +1,5 @@
--- A field of the 128-bit word, at any position and width, is the field of the half that it lies in. Assumes nothing.
+-- A field of the 128-bit word, at any position and width, is the field of the half that it lies in: for `low_bits` and `byte_at`.
+-- Assumes nothing.
 use mathlib.Core.Path.{_≡_, _∙_, sym, ap}
 use Prim.Native.Nat.{ℕ, _+_, _-_, _*_, _/_, _%_, _^_, _≤_, _<_}
 use native.Mathlib.Omega.{arith}

@@ -1,5 +1,5 @@
--- Line 7 of the full check cannot arise in the plain one (document 01, "Without separators"): the crate's plain check tests it
--- after line 6, and the answer is the same without it. Assumes nothing.
+-- A theorem: line 7 of the full check cannot arise in the plain one (document 01, "Without separators"). The crate's plain check
+-- tests it after line 6, and the answer is the same without it. Assumes nothing.
 use mathlib.Core.Path.{_≡_, refl}
 use mathlib.Core.Bool.{Bool, true, false, not, _&&_, _||_}
 use mathlib.Core.List.{List, [], _∷_, _++_}

@@ -1,0 +1,2 @@
+-- Members of a set as bits of four numbers.
+mod Members

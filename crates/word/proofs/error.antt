@@ -1,0 +1,2 @@
+-- A theorem about the numbers of answers, used by no function.
+mod Numbers

@@ -1,0 +1,2 @@
+-- Fields of the word by its halves.
+mod Halves

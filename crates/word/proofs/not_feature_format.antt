@@ -1,0 +1,2 @@
+-- A theorem about the plain check, used by no function.
+mod Line7
