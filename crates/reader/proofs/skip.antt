@@ -2,5 +2,6 @@
 pub mod Looks
 pub mod Takes
 pub mod LoopState
+mod SumsLoop
 pub mod TakeLoop
 mod Blocks

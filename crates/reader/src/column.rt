@@ -254,7 +254,8 @@ fn cell_totals(s: &[u8], format: Format, syntax: Syntax, reader: Reader) -> Tota
     ensures report { λ r. ⌜ r ≡ cellTotals (readingWith syntax) format reader (now (s .entry)) ⌝ }
     ensures fits { λ r. ⌜ (r .taken + r .passed ≤ length (now (s .entry))) × (r .digits ≤ length (now (s .entry))) ⌝ }
 {
-    let run = take_run(s, State::fresh(format), syntax, reader, 0, 0);
+    let counts = counts_digits(syntax.flags, reader);
+    let run = take_run(s, syntax, counts, 0, 0);
     Totals {
         taken: run.at - run.passed,
         passed: run.passed,

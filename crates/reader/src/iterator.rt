@@ -5,8 +5,8 @@ ghost use Prim.Native.Nat.{_+_, _≤_};
 ghost use lib.Dec.{eqb, ltb};
 ghost use lib.ListN.{length, getD};
 ghost use Rattle.word.specs.ByteSet.{member};
-ghost use Rattle.reader.specs.Reading.{readingWith, readingFor, passedAt};
-ghost use Rattle.reader.specs.Answer.{readOutcomeOf, skipOutcomeOf};
+ghost use Rattle.reader.specs.Reading.{syntaxFor, readingWith, readingFor, passedAt};
+ghost use Rattle.reader.specs.Answer.{admissionNumber, readOutcomeOf, skipOutcomeOf};
 ghost use Rattle.reader.specs.Calls.{readIfOf};
 ghost use Rattle.reader.specs.ZeroSkip.{isZero, skipRefusal, skipZerosOf};
 use crate::passing::Syntax;
@@ -101,6 +101,14 @@ pub fn read_if_value_cased(s: &[u8], state: State, reader: Reader, value: u8) ->
 {
     let wanted = ByteSet::from_byte(value);
     read_if(s, state, reader, wanted)
+}
+
+// Whether a run of digits may begin: the refusals of a zero skip, 16, 17, 18, then 12 to 14.
+pub fn admit_run(s: &[u8], state: State, reader: Reader) -> Admission
+    ensures { λ r. ⌜ admissionNumber r ≡ skipRefusal (syntaxFor state reader .flags) (now (s .entry)) state reader ⌝ }
+{
+    let syntax = syntax_for(state, reader);
+    admit_skip(s, state, syntax.flags, reader)
 }
 
 fn skip_answered(skipped: Skipped, taken: usize, passed: usize, state: State) -> SkipAnswer

@@ -4,6 +4,7 @@ ghost use mathlib.Core.Path.{_≡_};
 ghost use mathlib.Core.Bool.{cond};
 ghost use Prim.Native.Nat.{_≤_, _<_};
 ghost use Rattle.word.specs.Bits.{bit};
+ghost use Rattle.reader.specs.Reading.{hasAnyFlag, isConsecutiveAlone};
 ghost use Rattle.reader.specs.Rule.{ruleOf, namesOf};
 ghost use Rattle.reader.specs.Code.RuleWords.{cellOf, codeOf, IsEntry, IsLater};
 use word::format_flags::bit_at;
@@ -14,6 +15,20 @@ pub struct Flags {
     pub leading: bool,
     pub trailing: bool,
     pub consecutive: bool,
+}
+
+// Whether the reader has any flag.
+pub(crate) fn has_any(flags: Flags) -> bool
+    ensures { λ r. ⌜ r ≡ hasAnyFlag flags ⌝ }
+{
+    flags.internal | flags.leading | flags.trailing | flags.consecutive
+}
+
+// Whether its consecutive flag is all it has.
+pub(crate) fn is_consecutive_alone(flags: Flags) -> bool
+    ensures { λ r. ⌜ r ≡ isConsecutiveAlone flags ⌝ }
+{
+    flags.consecutive & !flags.internal & !flags.leading & !flags.trailing
 }
 
 // What a rule asks of a separator's neighbour.

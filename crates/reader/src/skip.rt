@@ -7,10 +7,10 @@ ghost use lib.ListN.{length};
 ghost use Rattle.word.specs.Digit.{isDigit};
 ghost use Rattle.word.specs.Word.{digitSeparator, mantissaRadix};
 ghost use Rattle.reader.specs.Place.{isSeparator};
-ghost use Rattle.reader.specs.Reading.{readingWith, readingFor, hasAnyFlag};
+ghost use Rattle.reader.specs.Reading.{readingWith, readingFor};
 ghost use Rattle.reader.specs.State.{countOf, countSum};
 ghost use Rattle.reader.specs.Code.Looks.{lookOutcome, LookFits};
-ghost use Rattle.reader.specs.Code.TakeSums.{sumsOutcome};
+ghost use Rattle.reader.specs.Code.TakeSums.{takeSumsFrom};
 ghost use Rattle.reader.specs.Answer.{outcomeOf, peekOutcomeOf, countOutcomeOf, blockOutcomeOf};
 ghost use Rattle.reader.specs.Calls.{peekOf, nextOf, nextAllOf, takenFrom, shownCount, currentCountOf, peeked, refusalWith};
 ghost use Rattle.reader.specs.Block.{blockFrom, takeNOf, BlockPart};
@@ -19,6 +19,7 @@ use crate::passing::landing;
 use crate::passing::separator_landing;
 use crate::passing::syntax_for;
 use crate::rule::Flags;
+use crate::rule::has_any;
 use crate::rule::later_rule;
 use crate::state::Admission;
 use crate::state::Reader;
@@ -204,10 +205,7 @@ fn past_byte(state: State, syntax: Syntax, reader: Reader, b: u8) -> State
     ensures { λ r. ⌜ r ≡ takenFrom (readingWith syntax) reader b state ⌝ }
 {
     let next = moved(state, state.cursor + 1);
-    let flags = syntax.flags;
-    if (flags.internal | flags.leading | flags.trailing | flags.consecutive)
-        & char_is_digit_by_range(b, syntax.radix)
-    {
+    if has_any(syntax.flags) & char_is_digit_by_range(b, syntax.radix) {
         return counted(next, reader);
     }
     next
@@ -247,23 +245,21 @@ fn count_past(counts: bool, b: u8, radix: u8, count: usize) -> usize
     count
 }
 
-// Takes until there is no byte, from a state that is not refused. The loop keeps numbers only; most bytes are no separator, so that
-// compare stands first. The state is there for the contract alone: its numbers come beside it.
+// Takes until there is no byte, on plain numbers: from a place, with the reader's count there, which digits raise if it counts them.
+// Most bytes are no separator, so that compare stands first.
 pub(crate) fn take_run(
     s: &[u8],
-    state: State,
     syntax: Syntax,
-    reader: Reader,
+    counts: bool,
     start: usize,
     counted: usize,
 ) -> TakeSums
-    requires { ⌜ (refusalWith (syntax .flags) (now s) state reader ≡ 0) × (start ≡ state .cursor) × (counted ≡ countOf state reader) ⌝ }
-    ensures outcome { λ r. ⌜ sumsOutcome state reader r ≡ nextAllOf (readingWith syntax) (now (s .entry)) state reader ⌝ }
+    requires { ⌜ (start ≤ length (now s)) × (counted ≤ start) ⌝ }
+    ensures sums { λ r. ⌜ r ≡ takeSumsFrom (readingWith syntax) (now (s .entry)) counts start counted ⌝ }
     ensures fits { λ r. ⌜ (start + r .passed ≤ r .at) × (r .at ≤ length (now (s .entry))) × (r .count ≤ r .at) ⌝ }
 {
     let separator = syntax.separator;
     let radix = syntax.radix;
-    let counts = counts_digits(syntax.flags, reader);
     let later = later_rule(syntax.flags);
     let mut at = start;
     let mut count = counted;
@@ -293,13 +289,14 @@ pub(crate) fn take_run(
     TakeSums { at, count, passed }
 }
 
-// The same, with the state made at the end.
+// The same from a state that is not refused, and the state at the end.
 fn take_all(s: &[u8], state: State, syntax: Syntax, reader: Reader) -> Answer
     requires { ⌜ refusalWith (syntax .flags) (now s) state reader ≡ 0 ⌝ }
     ensures { λ r. ⌜ outcomeOf r ≡ nextAllOf (readingWith syntax) (now (s .entry)) state reader ⌝ }
 {
     let start = state.cursor;
-    let run = take_run(s, state, syntax, reader, start, state.count(reader));
+    let counts = counts_digits(syntax.flags, reader);
+    let run = take_run(s, syntax, counts, start, state.count(reader));
     let end = with_count(moved(state, run.at), reader, run.count);
     let taken = run.at - start - run.passed;
     answered(Seen::End, taken, run.passed, end)
@@ -341,8 +338,7 @@ fn shown_count(state: State, syntax: Syntax, reader: Reader) -> usize
     requires { ⌜ countSum state < 2 ^ 64 ⌝ }
     ensures { λ r. ⌜ r ≡ shownCount (readingWith syntax) state reader ⌝ }
 {
-    let flags = syntax.flags;
-    if flags.internal | flags.leading | flags.trailing | flags.consecutive {
+    if has_any(syntax.flags) {
         return state.count(reader);
     }
     match reader {
@@ -389,7 +385,7 @@ fn block_from(s: &[u8], state: State, flags: Flags, n: usize) -> BlockAnswer
     requires { ⌜ state .cursor ≤ length (now s) ⌝ }
     ensures { λ r. ⌜ blockOutcomeOf r ≡ blockFrom flags (now (s .entry)) state n ⌝ }
 {
-    if flags.internal | flags.leading | flags.trailing | flags.consecutive {
+    if has_any(flags) {
         return block_answered(Block::None, 0, state);
     }
     let cursor = state.cursor;

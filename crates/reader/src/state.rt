@@ -1,16 +1,17 @@
 // The state of a cursor: a format word, the cursor, and the digits that each reader has counted; and when a state is refused.
 ghost use mathlib.Core.Path.{_≡_};
 ghost use mathlib.Core.Bool.{cond, _&&_};
-ghost use Rattle.reader.specs.Reading.{hasAnyFlag};
 ghost use Prim.Native.Nat.{_+_, _<_, _^_};
 ghost use lib.Dec.{eqb, leb};
 ghost use Rattle.reader.specs.State.{namedReader, readerNamed, freshOf, isCounted, countOf, countSum, movedTo, countedBy};
-ghost use Rattle.reader.specs.Code.TakeSums.{withCount};
+ghost use Rattle.reader.specs.Code.TakeSums.{countsDigits, withCount};
 ghost use Rattle.reader.specs.Answer.{numberOf, admissionNumber};
-ghost use Rattle.reader.specs.Calls.{consecutiveNumber, placeRefusal, refusalWith};
+ghost use Rattle.reader.specs.Calls.{consecutiveNumber, lineConsecutive, placeRefusal, refusalWith};
 ghost use Rattle.reader.specs.ZeroSkip.{skipRefusal};
 ghost use Rattle.reader.specs.Block.{blockRefusal};
 use crate::rule::Flags;
+use crate::rule::has_any;
+use crate::rule::is_consecutive_alone;
 use word::format_flags::Format;
 
 // Who reads: the three readers of digits, each with flags and a count of its own, and the reader of special values.
@@ -182,9 +183,9 @@ fn is_counted(reader: Reader) -> bool
 
 // Whether a reader counts the digits that it takes: with any flag, and if it counts at all.
 pub(crate) fn counts_digits(flags: Flags, reader: Reader) -> bool
-    ensures { λ r. ⌜ r ≡ (hasAnyFlag flags && isCounted reader) ⌝ }
+    ensures { λ r. ⌜ r ≡ countsDigits flags reader ⌝ }
 {
-    (flags.internal | flags.leading | flags.trailing | flags.consecutive) & is_counted(reader)
+    has_any(flags) & is_counted(reader)
 }
 
 // Whether the counts together are within the cursor. Nothing is added up, so nothing can overflow.
@@ -237,20 +238,12 @@ fn consecutive_refusal(reader: Reader) -> Admission
     }
 }
 
-// Tests 16, 17, then 12 to 14.
-pub(crate) fn admit(s: &[u8], state: State, flags: Flags, reader: Reader) -> Admission
-    ensures { λ r. ⌜ admissionNumber r ≡ refusalWith flags (now (s .entry)) state reader ⌝ }
+// Tests 12 to 14, of the reader's own flags.
+fn admit_flags(flags: Flags, reader: Reader) -> Admission
+    ensures { λ r. ⌜ admissionNumber r ≡ lineConsecutive flags reader ⌝ }
 {
-    let alone = flags.consecutive & !flags.internal & !flags.leading & !flags.trailing;
-    line(
-        state.cursor <= s.len(),
-        Admission::Refused(Refusal::CursorPastEnd),
-        line(
-            counts_fit(state),
-            Admission::Refused(Refusal::CountsExceedCursor),
-            line(!alone, consecutive_refusal(reader), Admission::Admitted),
-        ),
-    )
+    let alone = is_consecutive_alone(flags);
+    line(!alone, consecutive_refusal(reader), Admission::Admitted)
 }
 
 // The refusal of the first tests, else what the tests after them say.
@@ -261,6 +254,13 @@ fn first_refusal(first: Admission, rest: Admission) -> Admission
         Admission::Admitted => rest,
         Admission::Refused(refusal) => Admission::Refused(refusal),
     }
+}
+
+// Tests 16, 17, then 12 to 14.
+pub(crate) fn admit(s: &[u8], state: State, flags: Flags, reader: Reader) -> Admission
+    ensures { λ r. ⌜ admissionNumber r ≡ refusalWith flags (now (s .entry)) state reader ⌝ }
+{
+    first_refusal(admit_place(s, state), admit_flags(flags, reader))
 }
 
 // Tests 16, 17 and 18: those of a block take.
@@ -278,7 +278,5 @@ pub(crate) fn admit_block(s: &[u8], state: State, reader: Reader) -> Admission
 pub(crate) fn admit_skip(s: &[u8], state: State, flags: Flags, reader: Reader) -> Admission
     ensures { λ r. ⌜ admissionNumber r ≡ skipRefusal flags (now (s .entry)) state reader ⌝ }
 {
-    let alone = flags.consecutive & !flags.internal & !flags.leading & !flags.trailing;
-    let consecutive = line(!alone, consecutive_refusal(reader), Admission::Admitted);
-    first_refusal(admit_block(s, state, reader), consecutive)
+    first_refusal(admit_block(s, state, reader), admit_flags(flags, reader))
 }

@@ -1,21 +1,23 @@
--- The loop of takes on plain numbers: how its numbers stand for the state of a list of takes. Assumes nothing.
+-- Takes on plain numbers: how these stand for the state of a list of takes, so that their sums are the takes' own (`sums-are-takes`, which
+-- take_all and the column cite). Assumes nothing.
 use mathlib.Core.Path.{_≡_, refl, ap}
 use mathlib.Core.Bool.{Bool, true, false, cond, _&&_}
 use mathlib.Core.List.{List}
 use mathlib.Core.Option.{some, none}
-use Prim.Native.Nat.{ℕ, _+_, _-_, _<_, _≤_}
+use Prim.Native.Nat.{ℕ, zero, suc, _+_, _-_, _<_, _≤_}
 use native.Mathlib.Nat.{add-zero}
 use native.Mathlib.Omega.{arith}
-use lib.Dec.{eqb}
+use lib.Dec.{eqb, ltb}
+use borrow.Author.Tests.{ltb-true, ltb-false}
 use lib.ListN.{length, getD}
 use Rattle.reader.specs.declared.state.Reader.{Reader}
 use Rattle.reader.specs.declared.state.Reader.the-variants.{Integer, Fraction, Exponent, Special}
 use Rattle.reader.specs.declared.state.State.{State}
 use Rattle.reader.specs.Reading.{Reading, hasAnyFlag, mayPass, passedAt}
 use Rattle.reader.specs.State.{isCounted, countOf, movedTo, countedBy}
-use Rattle.reader.specs.Code.TakeSums.{withCount}
+use Rattle.reader.specs.Code.TakeSums.{withCount, sumsOutcome, countsDigits, countBehind, landsAt, sumsFrom, takeSumsFrom}
 use Rattle.reader.specs.Answer.{Outcome}
-use Rattle.reader.specs.Calls.{refusalWith, takenFrom, nextOf}
+use Rattle.reader.specs.Calls.{refusalWith, takenFrom, nextOf, nextAllOf}
 use Rattle.reader.proofs.state.Refusals.{within}
 use Rattle.reader.specs.Repeat.{repeated}
 use Rattle.reader.proofs.state.Updates.{stateAt, own-count, past-byte}
@@ -23,6 +25,7 @@ use Rattle.reader.proofs.skip.LoopState.{Standing, standing-starts, sta
 use Rattle.reader.proofs.Repeats.{Repeating, repeating-starts, repeating-ends, repeating-goes-on}
 use Rattle.reader.proofs.skip.Takes.{next-takes-one}
 use Rattle.reader.proofs.passing.Places.{byte-here, no-byte}
+use Rattle.reader.proofs.skip.SumsLoop.{end-passes-none, sums-on, sums-end}
 
 -- Where the reader counts (t), one more is counted; a count of the special reader changes nothing.
 counts-on : (st : State) (r : Reader) (at count : ℕ) (flagged digit : Bool)
@@ -51,18 +54,6 @@ tells-count st Fraction at count t e to flagged = refl
 tells-count st Exponent at count t e to flagged = refl
 tells-count st Special at count t e to true = e
 tells-count st Special at count t e to false = e
-
--- nothing is passed at the end
-end-passes-none : (m : Reading) (s : List ℕ) (isFirst : Bool) (place : ℕ) → length s ≤ place → passedAt m s isFirst place ≡ 0
-unfolding passedAt mayPass
-end-passes-none m s isFirst place out = rw (no-byte s place out)
-
--- A loop of takes that keeps numbers only begins at a state: its place and count are the state's, and it counts where the reader does.
-pub record Begins (m : Reading) (s : List ℕ) (r : Reader) (st : State) (start counted : ℕ) (counts : Bool) : Type 0 where
-  pub clear : refusalWith (m .flags) s st r ≡ 0
-  pub place : start ≡ st .cursor
-  pub own : counted ≡ countOf st r
-  pub counting : counts ≡ (hasAnyFlag (m .flags) && isCounted r)
 
 -- the call that the loop repeats
 abbrev take : Reading → List ℕ → Reader → State → Outcome
@@ -145,3 +136,35 @@ module _ (m : Reading) (s : List ℕ) (r : Reader) (st : State) (clear : refusal
         let stays : at ≡ at + passedAt m s (eqb count 0) at = rw (end-passes-none m s (eqb count 0) at out) (omega arith) in
         let none-passed : passed + (at - at) ≡ passed = omega arith in
         rw none-passed at (running-over at stays out)
+
+  abbrev counts : Bool
+  counts = countsDigits (m .flags) r
+
+  -- where the end is found, the sums are those of the list of takes
+  sums-over : (n at count passed : ℕ) → Running m s r st at count passed → length s ≤ landsAt m s at count
+      → sumsOutcome st r (sumsFrom m s counts n at count passed) ≡ repeated (length s) (take m s r) st
+  sums-over n at count passed here out =
+      let same : landsAt m s at count - st .cursor - (passed + (landsAt m s at count - at)) ≡ at - st .cursor - passed = omega (arith, here .started) in
+      rw (sums-end m s counts n at count passed out, same) (running-over at count passed here (landsAt m s at count) refl out)
+
+  -- and so they are from wherever it has come to
+  sums-from : (n at count passed : ℕ) → length s ≤ at + n → Running m s r st at count passed
+      → sumsOutcome st r (sumsFrom m s counts n at count passed) ≡ repeated (length s) (take m s r) st
+  sums-from zero at count passed few here = sums-over 0 at count passed here (omega arith)
+  sums-from (suc n) at count passed few here =
+      go (ltb (landsAt m s at count) (length s)) refl
+      (λ on. sums-from n (landsAt m s at count + 1) (countBehind m counts (getD s (landsAt m s at count) 0) count) (passed + (landsAt m s at count - at)) (omega arith) on) where
+        go : (t : Bool) → ltb (landsAt m s at count) (length s) ≡ t
+            → (Running m s r st (landsAt m s at count + 1) (countBehind m counts (getD s (landsAt m s at count) 0) count) (passed + (landsAt m s at count - at))
+            → sumsOutcome st r (sumsFrom m s counts n (landsAt m s at count + 1) (countBehind m counts (getD s (landsAt m s at count) 0) count) (passed + (landsAt m s at count - at)))
+            ≡ repeated (length s) (take m s r) st)
+            → sumsOutcome st r (sumsFrom m s counts (suc n) at count passed) ≡ repeated (length s) (take m s r) st
+        go false t rest = sums-over (suc n) at count passed here (ltb-false (landsAt m s at count) (length s) t)
+        go true t rest =
+            let h = ltb-true (landsAt m s at count) (length s) t in
+            rw (sums-on m s counts n at count passed h) (rest (running-on at count passed here (landsAt m s at count) refl h))
+
+  -- the sums from a state's place and count are the takes' own
+  pub sums-are-takes : sumsOutcome st r (takeSumsFrom m s (countsDigits (m .flags) r) (st .cursor) (countOf st r)) ≡ nextAllOf m s st r
+  unfolding takeSumsFrom nextAllOf
+  sums-are-takes = sums-from (length s) (st .cursor) (countOf st r) 0 (omega arith) running-starts

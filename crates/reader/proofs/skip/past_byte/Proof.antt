@@ -1,9 +1,8 @@
 -- `reader::skip::past_byte` meets its contract: only a digit of a reader with a flag is counted. Assumes nothing.
-use mathlib.Core.Path.{_≡_, _∙_, sym}
-use mathlib.Core.Bool.{true, _&&_}
+use mathlib.Core.Path.{_∙_, sym}
 use native.Mathlib.Omega.{arith}
 use Rattle.reader.specs.State.{movedTo}
-use Rattle.reader.specs.Reading.{readingWith, hasAnyFlag}
+use Rattle.reader.specs.Reading.{readingWith}
 use borrow.Author.Needs.{needs}
 use Rattle.reader.proofs.skip.past_byte.Statement.{statement}
 use Rattle.reader.proofs.skip.past_byte.Tie as tie
@@ -14,38 +13,32 @@ add-moved c = search needs
 moved-requires : tie.Need-moved-requires
 moved-requires c κs = search needs
 
+has-any-requires : tie.Need-has-any-requires
+has-any-requires c κs = search needs
+
 char-is-digit-by-range-requires : tie.Need-char-is-digit-by-range-requires
 char-is-digit-by-range-requires c κs = search needs
 
 counted-requires : tie.Need-counted-requires
 unfolding movedTo
 counted-requires c κs =
-    let m = c .before .before .before .before .before .before in
+    let m = c .before .before .before in
     rw (m .moved .ensures) (omega (arith, m .before .before .pre .0, m .before .before .pre .1))
 
 returns : tie.Need-returns
 unfolding readingWith
 returns c =
     let d = c .before .before in
-    let m = d .before .before .before .before .before in
-    let a = m .before .before .args in
-    let counts : (hasAnyFlag (a .syntax .flags) && d .char-is-digit-by-range .result) ≡ true = c .before .if1 .taken in
-    rw (
-      sym (d .char-is-digit-by-range .ensures),
-      counts,
-    )
+    let m = d .before .before in
+    rw (sym (d .char-is-digit-by-range .ensures), sym (d .before .has-any .ensures), c .before .if1 .taken)
     (c .counted .ensures ∙ rw (m .moved .ensures))
 
 returns-2 : tie.Need-returns-2
 unfolding readingWith
 returns-2 c =
     let d = c .before in
-    let m = d .before .before .before .before .before in
-    let a = m .before .before .args in
-    rw (
-      sym (d .char-is-digit-by-range .ensures),
-      c .if1 .left,
-    )
+    let m = d .before .before in
+    rw (sym (d .char-is-digit-by-range .ensures), sym (d .before .has-any .ensures), c .if1 .left)
     (m .moved .ensures)
 
 pub past-byte-spec : {M : Type 1} → statement M
@@ -54,6 +47,7 @@ past-byte-spec =
     (tie.spec
     add-moved
     moved-requires
+    has-any-requires
     char-is-digit-by-range-requires
     counted-requires
     returns
