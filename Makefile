@@ -44,7 +44,7 @@ compare: harness
 # Minutes: some ten seconds a mutant on two cores, and each crate is proved in a copy first.
 mutants:
 	@tools/need-rt
-	tools/test-mutants
+	tools/test/test-mutants
 	$(RT) check
 	tools/mutants --n $(or $(N),40) --seed $(or $(SEED),1) --crate '$(CRATE)' --file '$(FILE)' --function '$(FUNCTION)'
 
