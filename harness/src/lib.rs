@@ -7,6 +7,9 @@
 //! `test-script`, `scripts` and `bench-script` do this for call scripts alone;
 //! `answer-script` prints the crate's answers to one, `run-script` is the program
 //! that is timed, and `growth-calls` makes the calls whose instructions are counted.
+//!
+//! `word` and `readers` have what is asked, how it is drawn and who answers;
+//! `compare`, `bench`, `script` and `record` what is done with it.
 
 #![deny(unsafe_code)]
 
