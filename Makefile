@@ -44,25 +44,25 @@ compare: harness
 # Minutes: some ten seconds a mutant on two cores, and each crate is proved in a copy first.
 mutants:
 	@tools/need-rt
-	tools/test-mutants
+	tools/test/test-mutants
 	$(RT) check
 	tools/mutants --n $(or $(N),40) --seed $(or $(SEED),1) --crate '$(CRATE)' --file '$(FILE)' --function '$(FUNCTION)'
 
 # Fewer inputs than in the gate: a function takes some twenty times as long here.
 boundary-valgrind: lib
-	harness/c/build target/boundary-valgrind -g
+	harness/boundary/build target/boundary-valgrind -g
 	valgrind -q --error-exitcode=1 target/boundary-valgrind --heap --rounds 40000
 	valgrind -q --error-exitcode=1 target/boundary-valgrind --rounds 40000
 
 # The sanitizers watch the C alone: the library is not built with them.
 boundary-sanitize: lib
-	harness/c/build target/boundary-sanitize -g -fsanitize=address,undefined -fno-sanitize-recover=all
+	harness/boundary/build target/boundary-sanitize -g -fsanitize=address,undefined -fno-sanitize-recover=all
 	target/boundary-sanitize --heap
 	target/boundary-sanitize
 
 fuzz: lib
-	clang -std=gnu11 -O1 -g -Wall -Wextra -Werror -fsanitize=fuzzer -Iinclude harness/c/fuzz.c harness/c/checks.c \
-		harness/c/fence.c $(PAWHETINO_LIB) -o target/fuzz
+	clang -std=gnu11 -O1 -g -Wall -Wextra -Werror -fsanitize=fuzzer -Iinclude \
+		$(addprefix harness/boundary/,fuzz.c checks.c fence.c) $(PAWHETINO_LIB) -o target/fuzz
 	target/fuzz -seed=$(or $(SEED),1) -max_total_time=60 -print_final_stats=1 -artifact_prefix=target/fuzz-
 
 # keep FILE,COMMAND: prints what the command prints, keeps it in the file too, and fails where the command does.

@@ -1,27 +1,29 @@
-//! Times the full check and the readers, the Rust's and the library's, side by
-//! side.
+//! Times the library beside the crate: reader calls and the full check (`run`),
+//! how cost grows with a cell's length (`growth`), and call scripts (`script`).
 
-use std::hint::black_box;
+mod cells;
+mod chart;
+mod column;
+mod full_check;
+pub mod growth;
+mod next_all;
+pub mod script;
+mod sides;
+mod skip_zeros;
+mod table;
+mod take_n;
+mod timing;
+
 use std::process::ExitCode;
 
-use crate::chart::bars::{self, Bars};
-use crate::rng::Rng;
-use crate::timing::{agree, time_in_turn, ROUNDS};
-use crate::word::Word;
-use crate::words::{accepted_word, changed_word, uniform_word};
-use crate::{chart, library, oracle, readers};
-
-const WORDS: usize = 4096;
-
-/// Passes over the words in one round.
-const PASSES: u32 = 200;
+use self::chart::bars::{self, Bars};
 
 /// What a run has found out, besides what it printed.
-pub struct Findings {
+struct Findings {
     /// Whether all sides gave the same answers.
-    pub agreed: bool,
+    agreed: bool,
     /// The rows that are drawn.
-    pub bars: Vec<Bars>,
+    bars: Vec<Bars>,
 }
 
 /// Prints the tables, and draws some of their rows into a file where one is named.
@@ -30,69 +32,15 @@ pub fn run(seed: u64, chart: Option<&str>) -> ExitCode {
         agreed: true,
         bars: Vec::new(),
     };
-    readers::bench(seed, &mut findings);
-    time_checks(seed, &mut findings);
+    next_all::table().time(seed, &mut findings);
+    column::table().time(seed, &mut findings);
+    next_all::table_of_runs().time(seed, &mut findings);
+    skip_zeros::table().time(seed, &mut findings);
+    take_n::table().time(seed, &mut findings);
+    full_check::time(seed, &mut findings);
     if !findings.agreed {
         eprintln!("harness: the answers differ, so the times say nothing");
         return ExitCode::FAILURE;
     }
     chart::save(chart, || bars::draw(&findings.bars))
-}
-
-fn time_checks(seed: u64, findings: &mut Findings) {
-    println!("\n**Full check**, ns per word: median of {ROUNDS} rounds (least to most).\n");
-    println!("| {WORDS} words | Crate | Rattle | Rattle / crate |");
-    println!("|---|---|---|---|");
-    let mut rng = Rng::new(seed, "bench");
-    for (name, draw) in word_sets() {
-        let words: Vec<Word> = (0..WORDS).map(|_| draw(&mut rng)).collect();
-        let timings = time_in_turn(
-            [&|| pass(&words, oracle::format_error), &|| {
-                pass(&words, library::format_error)
-            }],
-            WORDS,
-            PASSES,
-        );
-        findings.agreed &= agree(&timings);
-        let [rust, rattle] = timings;
-        println!(
-            "| {name} | {} | {} | {:.2} |",
-            rust.cell(),
-            rattle.cell(),
-            rattle.ratio(&rust)
-        );
-        findings.bars.push(Bars {
-            label: format!("full check: {name} words"),
-            port: None,
-            rattle: rattle.to(&rust),
-        });
-    }
-}
-
-type Draw = fn(&mut Rng) -> Word;
-
-fn word_sets() -> [(&'static str, Draw); 3] {
-    [
-        ("uniformly random", uniform_word),
-        ("near-valid", half_changed_word),
-        ("accepted", accepted_word),
-    ]
-}
-
-/// An accepted word, in about half of the cases with one part changed.
-fn half_changed_word(rng: &mut Rng) -> Word {
-    let word = accepted_word(rng);
-    if rng.percent(50) {
-        changed_word(rng, word)
-    } else {
-        word
-    }
-}
-
-/// One call for each word. Generic, so that nothing stands between the loop and
-/// the check; never inlined, so that each side has one loop for all rounds.
-#[inline(never)]
-fn pass(words: &[Word], check: impl Fn(Word) -> u32) -> u64 {
-    let numbers = black_box(words).iter().map(|&word| check(word));
-    numbers.map(u64::from).sum()
 }

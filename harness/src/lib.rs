@@ -7,26 +7,21 @@
 //! `test-script`, `scripts` and `bench-script` do this for call scripts alone;
 //! `answer-script` prints the crate's answers to one, `run-script` is the program
 //! that is timed, and `growth-calls` makes the calls whose instructions are counted.
+//!
+//! `word` and `readers` have what is asked, how it is drawn and who answers;
+//! `compare`, `bench`, `script` and `record` what is done with it.
 
 #![deny(unsafe_code)]
 
 mod bench;
-mod chart;
-mod checks;
-mod digits;
-mod families;
+mod compare;
 mod group;
-mod library;
-mod named;
-mod oracle;
 mod readers;
 mod record;
 mod rng;
 mod scratch;
 mod script;
-mod timing;
 mod word;
-mod words;
 
 use std::process::ExitCode;
 
@@ -43,43 +38,31 @@ pub fn main() -> ExitCode {
     match arguments.as_slice() {
         ["test"] => test(SEED),
         ["test", seed] => parse_seed(seed).map_or_else(usage, test),
-        ["compare"] => run_groups(&readers::LONG_GROUPS, SEED),
+        ["compare"] => run_groups(&compare::LONG_GROUPS, SEED),
         ["compare", seed] => {
-            parse_seed(seed).map_or_else(usage, |seed| run_groups(&readers::LONG_GROUPS, seed))
+            parse_seed(seed).map_or_else(usage, |seed| run_groups(&compare::LONG_GROUPS, seed))
         }
         ["test-compare", seed] => parse_seed(seed).map_or_else(usage, |seed| {
-            run_groups(&[readers::TEST_OF_COMPARISON], seed)
+            run_groups(&[compare::test_of_comparison], seed)
         }),
         ["test-script"] => run_groups(&[script::compare], SEED),
         ["bench"] => bench::run(SEED, None),
         ["bench", "--chart", file] => bench::run(SEED, Some(file)),
-        ["growth"] => readers::growth(None),
-        ["growth", "--chart", file] => readers::growth(Some(file)),
-        [readers::GROWTH_CALLS] => readers::make_growth_calls(),
+        ["growth"] => bench::growth::run(None),
+        ["growth", "--chart", file] => bench::growth::run(Some(file)),
+        [bench::growth::COMMAND] => bench::growth::make_calls(),
         ["record"] => record::run(SEED),
         ["scripts"] => script::record(SEED),
-        ["bench-script"] => script::bench(SEED),
+        ["bench-script"] => bench::script::run(SEED),
         ["answer-script"] => script::answer(),
-        ["run-script", lines] => script::run_in_rust(lines),
+        ["run-script", lines] => bench::script::rust::run(lines),
         _ => usage(),
     }
 }
 
 fn test(seed: u64) -> ExitCode {
-    let words: [group::Groups; 3] = [
-        |report, _| named::run(report),
-        |report, _| digits::run(report),
-        checks::run,
-    ];
-    run_groups(
-        &[
-            &words,
-            readers::GROUPS.as_slice(),
-            &[script::assemble, script::compare],
-        ]
-        .concat(),
-        seed,
-    )
+    let scripts: [group::Groups; 2] = [script::assemble, script::compare];
+    run_groups(&[compare::GROUPS.as_slice(), &scripts].concat(), seed)
 }
 
 fn run_groups(groups: &[group::Groups], seed: u64) -> ExitCode {

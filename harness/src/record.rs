@@ -2,15 +2,16 @@
 //!
 //! `W lo hi full plain`: a word and the answers of both checks.
 //! `D byte radix digit`: whether the byte is a digit.
-//! `R ..`: a reader call, see `readers/record.rs`.
+//! `R ..`: a reader call, see `record/readers.rs`.
+
+mod readers;
 
 use std::io::{self, BufWriter, Write};
 use std::process::ExitCode;
 
-use crate::families::FAMILIES;
 use crate::rng::Rng;
-use crate::word::Word;
-use crate::{oracle, readers};
+use crate::word::families::FAMILIES;
+use crate::word::{oracle, Word};
 
 /// Words recorded for each answer of the full check.
 const WORDS_PER_FULL_ANSWER: usize = 200;
@@ -50,7 +51,7 @@ fn write_record(seed: u64) -> io::Result<()> {
         write_word(&mut out, *word)?;
     }
     write_digits(&mut out, &mut Rng::new(seed, "record digits"))?;
-    readers::record(&mut out, seed)?;
+    readers::write(&mut out, seed)?;
     out.flush()
 }
 

@@ -2,7 +2,6 @@
 
 mod answer;
 mod assembled;
-mod bench;
 mod cases;
 mod compare;
 mod damage;
@@ -10,20 +9,17 @@ mod draw;
 mod edges;
 mod failures;
 mod long;
-mod oracle;
+pub mod oracle;
 mod places;
-mod program;
+pub mod program;
 mod record;
-mod records;
-mod rust;
+pub mod records;
 mod seen;
 pub mod statements;
 
 pub use answer::run as answer;
 pub use assembled::run as assemble;
-pub use bench::run as bench;
 pub use compare::run as compare;
 pub use oracle::line;
 pub use record::run as record;
 pub use records::has_record;
-pub use rust::run as run_in_rust;

@@ -1,4 +1,10 @@
-//! The 128-bit format word: where its fields and flags lie.
+//! The 128-bit format word: where its fields and flags lie. Beside it, how words
+//! are drawn, and who is asked about one: the library and the crate.
+
+pub mod draw;
+pub mod families;
+pub mod library;
+pub mod oracle;
 
 use std::fmt;
 

@@ -6,7 +6,7 @@ use super::sets::{C, NONE, SETS};
 use crate::word::{reader_flags, Field, Word, SPECIAL_SEPARATOR};
 
 /// Separator `_`, radix 10, no flags.
-pub const DECIMAL: Word = sheet(b'_', 10, 0);
+pub const DECIMAL: Word = word_with(b'_', 10, 0);
 
 const ROW: usize = 5;
 
@@ -15,39 +15,39 @@ const INTEGER_ROWS: usize = 3;
 
 /// One row for each, with flags for all readers: a row has all sets, and over
 /// three neighbouring rows each counted reader has.
-const SHEETS: [Word; 21] = [
+const BASES: [Word; 21] = [
     DECIMAL,
     DECIMAL,
     DECIMAL,
-    sheet(b'_', 2, 0),
-    sheet(b'_', 8, 0),
-    sheet(b'_', 16, 0),
-    sheet(b'_', 36, 0),
+    word_with(b'_', 2, 0),
+    word_with(b'_', 8, 0),
+    word_with(b'_', 16, 0),
+    word_with(b'_', 36, 0),
     // No separator.
-    sheet(0, 10, 0),
+    word_with(0, 10, 0),
     // A letter, which in radix 16 is a digit too.
-    sheet(b'a', 10, 0),
-    sheet(b'a', 16, 0),
+    word_with(b'a', 10, 0),
+    word_with(b'a', 16, 0),
     // Exponent radixes, by which no reader goes.
-    sheet(b'_', 10, 16),
-    sheet(b'_', 16, 10),
-    sheet(b'_', 2, 36),
+    word_with(b'_', 10, 16),
+    word_with(b'_', 16, 10),
+    word_with(b'_', 2, 36),
     // Separators and radixes that the check refuses.
-    sheet(b'1', 10, 0),
-    sheet(b'0', 10, 0),
-    sheet(b'+', 10, 0),
-    sheet(0xFF, 10, 0),
-    sheet(b'_', 0, 0),
-    sheet(b'_', 1, 0),
-    sheet(b'_', 200, 0),
+    word_with(b'1', 10, 0),
+    word_with(b'0', 10, 0),
+    word_with(b'+', 10, 0),
+    word_with(0xFF, 10, 0),
+    word_with(b'_', 0, 0),
+    word_with(b'_', 1, 0),
+    word_with(b'_', 200, 0),
     // Every bit set that no reader looks at.
     Word::from_halves(0xFFFF_E000_FFFF_FFFF, 0xFFFF_0AFF_FFFF_FF5F),
 ];
 
 /// The last row has words in which one reader has the consecutive flag alone.
-const ROWS: usize = INTEGER_ROWS + SHEETS.len() + 1;
+const ROWS: usize = INTEGER_ROWS + BASES.len() + 1;
 
-const fn sheet(separator: u8, mantissa_radix: u8, exponent_radix: u8) -> Word {
+const fn word_with(separator: u8, mantissa_radix: u8, exponent_radix: u8) -> Word {
     Word::from_halves(0, 0)
         .with_field(Field::Separator, separator)
         .with_field(Field::MantissaRadix, mantissa_radix)
@@ -64,16 +64,16 @@ const fn word(row: usize, column: usize) -> Word {
     if row < INTEGER_ROWS {
         with_integer_flags(SETS[index])
     } else if row < ROWS - 1 {
-        mixed(SHEETS[row - INTEGER_ROWS], index)
+        mixed(BASES[row - INTEGER_ROWS], index)
     } else {
         one_consecutive_alone(column)
     }
 }
 
 /// The three sets lie apart, so that no reader can go by another's unseen.
-const fn mixed(sheet: Word, index: usize) -> Word {
+const fn mixed(base: Word, index: usize) -> Word {
     let special = if index % 2 == 1 { SPECIAL_SEPARATOR } else { 0 };
-    sheet.with_bits(
+    base.with_bits(
         reader_flags(INTEGER, SETS[index % 15])
             | reader_flags(FRACTION, SETS[(index + 5) % 15])
             | reader_flags(EXPONENT, SETS[(index + 10) % 15])

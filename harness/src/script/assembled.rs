@@ -13,8 +13,8 @@ use crate::readers::call::{Call, Step, EXPONENT, READERS};
 use crate::readers::draw;
 use crate::readers::words::{compiled, DECIMAL};
 use crate::rng::Rng;
+use crate::word::draw::likely_word;
 use crate::word::{Field, Word};
-use crate::words::likely_word;
 
 /// From the repository's root, where the gate runs.
 const ASSEMBLER: &str = "tools/script";

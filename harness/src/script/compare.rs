@@ -4,10 +4,10 @@
 use std::fmt;
 
 use super::damage::DAMAGES;
-use super::draw::{self, Draw};
+use super::draw::Draw;
 use super::program::{Feed, Outcome, Program, Shown};
 use super::seen::Seen;
-use super::{edges, failures, long, oracle};
+use super::{draw, edges, failures, long, oracle};
 use crate::group::{Group, Report};
 use crate::rng::Rng;
 

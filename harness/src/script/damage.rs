@@ -1,11 +1,12 @@
 //! How damaged scripts are drawn at random. Each starts from a whole one, and
 //! some have bytes behind the damage, which must not be looked at.
 
-use super::draw::{self, compiled_word, refused_word, Draw};
-use super::records::{self, Script, BODIES, CALLS, OPEN, TEXT};
+use super::draw::{compiled_word, refused_word, Draw};
+use super::records::{Script, BODIES, CALLS, OPEN, TEXT};
+use super::{draw, records};
 use crate::readers::call::{READERS, SPECIAL};
 use crate::rng::Rng;
-use crate::words::accepted_word;
+use crate::word::draw::accepted_word;
 
 pub const DAMAGES: [(&str, Draw); 7] = [
     ("cut anywhere", cut),

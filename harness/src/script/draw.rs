@@ -3,13 +3,12 @@
 
 use super::oracle;
 use super::records::{Script, LONGEST_TEXT};
-use crate::oracle as checks;
 use crate::readers::call::READERS;
 use crate::readers::draw;
 use crate::readers::words::compiled;
 use crate::rng::Rng;
-use crate::word::Word;
-use crate::words::{accepted_word, likely_word, near_word, uniform_word};
+use crate::word::draw::{accepted_word, likely_word, near_word, uniform_word};
+use crate::word::{oracle as checks, Word};
 
 /// The longest text of a script; the last of these is more than any other call
 /// comes to.

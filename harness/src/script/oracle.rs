@@ -2,11 +2,10 @@
 //! the crate for every answer in it.
 
 use super::records::{self, Record, BODIES, LONGEST_TEXT, OPEN, TEXT};
-use crate::oracle;
 use crate::readers::answer::{Answer, Found};
 use crate::readers::call::{Call, Step, SPECIAL};
 use crate::readers::words::compiled;
-use crate::word::Word;
+use crate::word::{oracle, Word};
 
 /// The number of a refusal that stops the run.
 type Stop = u32;

@@ -11,9 +11,9 @@ use std::io::{self, BufWriter, Write};
 use std::ops::Range;
 use std::process::ExitCode;
 
-use super::cases::{self, Case};
-use super::oracle;
-use super::records::{self, Script, OPEN};
+use super::cases::Case;
+use super::records::{Script, OPEN};
+use super::{cases, oracle, records};
 
 /// How many records, or repeated ones, stand on a line.
 const ON_A_LINE: usize = 12;

@@ -36,7 +36,9 @@ pub fn cases() -> Vec<Case> {
         ),
         case(
             "70,000 bytes behind a stop are not looked at",
-            opened(Script::default()).raw(&[7]).raw(&[3; BUFFER + 4_464]),
+            opened(Script::default())
+                .raw(&[7])
+                .raw(&[3; BUFFER + 4_464]),
         ),
     ]
 }

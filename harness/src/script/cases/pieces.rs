@@ -8,9 +8,9 @@ use crate::readers::call::{FRACTION, INTEGER, SPECIAL};
 use crate::readers::sets::{I, NONE};
 use crate::readers::words::with_integer_flags;
 use crate::rng::Rng;
-use crate::script::draw;
 use crate::script::long::bad_separator;
-use crate::script::records::{self, Script, OPEN, TEXT};
+use crate::script::records::{Script, OPEN, TEXT};
+use crate::script::{draw, records};
 
 const DRAWN: usize = 8;
 
@@ -27,7 +27,10 @@ pub fn cases(seed: u64) -> Vec<Case> {
         ("text that is cut short", opens(3).raw(&[TEXT])),
         ("a call that is cut short", example().raw(&[2])),
         ("an unknown kind", example().raw(&[7, 3, 0])),
-        ("a reader above 3", example().peek(SPECIAL + 1).peek(INTEGER)),
+        (
+            "a reader above 3",
+            example().peek(SPECIAL + 1).peek(INTEGER),
+        ),
         ("a call before an open", opens(2).peek(INTEGER)),
         ("text after an open", example().text(b"1")),
     ]

@@ -1,12 +1,11 @@
 //! Runs without a stop: every set of flags of every reader.
 
 use super::{case, Case};
-use crate::oracle;
 use crate::readers::call::{COUNTED, FRACTION, INTEGER, READERS, SPECIAL};
 use crate::readers::sets::{I, ILTC, NONE, SETS};
 use crate::readers::words::{compiled, with_integer_flags};
 use crate::script::records::Script;
-use crate::word::{Field, Word};
+use crate::word::{oracle, Field, Word};
 
 const NAMES: [&str; 4] = ["integer", "fraction", "exponent", "special"];
 

@@ -1,0 +1,132 @@
+//! Takes to the end of a cell.
+
+use lexical_util_format::iterator::{Bytes, Iter};
+
+use super::sides::{Singly, Work};
+use super::table::{Rows, Set, Table, Unit};
+use crate::readers::answer::{Answer, Found};
+use crate::readers::call::{Call, Case, State};
+use crate::readers::sets::{I, IC, ILT, ILTC};
+use crate::readers::{library, port};
+
+pub struct NextAll;
+
+impl Work for NextAll {
+    #[inline(always)]
+    fn rust<'a, const FORMAT: u128>(&self, cell: &'a [u8]) -> Answer<'a> {
+        let mut bytes = Bytes::<FORMAT>::new(cell);
+        let mut iter = bytes.integer_iter();
+        let mut taken = 0;
+        while iter.next().is_some() {
+            taken += 1;
+        }
+        let after = State {
+            cursor: iter.cursor(),
+            counts: [iter.current_count(), 0, 0],
+        };
+        Answer::new(State::default(), Found::byte(None), taken, after)
+    }
+
+    #[inline(always)]
+    fn port<'a>(&self, case: &Case<'a>) -> Answer<'a> {
+        port::next_all(case)
+    }
+
+    #[inline(always)]
+    fn library<'a>(&self, case: &Case<'a>) -> Answer<'a> {
+        library::call(case, Call::NextAll)
+    }
+}
+
+pub const ORDINARY_SETS: &[Set] = &[("I", I), ("ILT", ILT), ("IC", IC), ("ILTC", ILTC)];
+
+/// Ordinary cells.
+pub fn table() -> Table<Singly<NextAll>> {
+    Table {
+        title: "Take to the end, one call for each cell",
+        short: "singly",
+        unit: Unit::Byte,
+        rows: vec![
+            ordinary("`1_204`", "1_204", &[ILT]),
+            ordinary("`12_00`", "12_00", &[]),
+            ordinary("`123456`", "123456", &[ILT]),
+            Rows {
+                charted: &[I, ILT, ILTC],
+                ..mixed(Singly(NextAll))
+            },
+        ],
+    }
+}
+
+fn ordinary(
+    name: &'static str,
+    kind: &'static str,
+    charted: &'static [u32],
+) -> Rows<Singly<NextAll>> {
+    Rows {
+        name,
+        kinds: vec![kind.into()],
+        charted,
+        ..mixed(Singly(NextAll))
+    }
+}
+
+/// The cells that are taken singly and as a column.
+pub fn mixed<S>(sides: S) -> Rows<S> {
+    Rows {
+        name: "7,000 cells, mixed",
+        kinds: ["1_204", "12_00", "123456"].map(Into::into).into(),
+        cells: 7000,
+        passes: 100,
+        sets: ORDINARY_SETS,
+        charted: &[],
+        sides,
+    }
+}
+
+/// Cells that are mostly separators.
+pub fn table_of_runs() -> Table<Singly<NextAll>> {
+    Table {
+        title: "Take to the end, a run of separators in each cell",
+        short: "run",
+        unit: Unit::Byte,
+        rows: vec![
+            Rows {
+                charted: &[IC, ILTC],
+                ..long(
+                    "300 separators, passed",
+                    &[("IC", IC), ("ILTC", ILTC)],
+                    b'2',
+                )
+            },
+            Rows {
+                charted: &[I],
+                ..long("300 separators, not passed", &[("I", I), ("IC", IC)], b'x')
+            },
+            Rows {
+                kinds: vec![padded(4000, b'x')],
+                cells: 1,
+                passes: 1,
+                charted: &[IC],
+                ..long("4,000 separators, not passed", &[("IC", IC)], b'x')
+            },
+        ],
+    }
+}
+
+fn long(name: &'static str, sets: &'static [Set], end: u8) -> Rows<Singly<NextAll>> {
+    Rows {
+        name,
+        kinds: vec![padded(300, end)],
+        cells: 64,
+        passes: 20,
+        sets,
+        charted: &[],
+        sides: Singly(NextAll),
+    }
+}
+
+/// A digit, so many separators, an end.
+fn padded(separators: usize, end: u8) -> Vec<u8> {
+    [b"1", b"_".repeat(separators).as_slice(), &[end]].concat()
+}

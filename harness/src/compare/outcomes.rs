@@ -1,0 +1,90 @@
+//! Which outcomes the calls of a comparison have had. Each must have been seen,
+//! where it can be: otherwise a library that is wrong there is not seen either.
+
+use crate::group::{Group, Report};
+use crate::readers::answer::{Answer, Found};
+use crate::readers::call::Call;
+use crate::readers::refusal::ACCEPTED;
+
+pub struct Outcomes {
+    what: String,
+    /// By kind of call, by place in `OUTCOMES`.
+    seen: [[bool; OUTCOMES.len()]; Call::NAMES.len()],
+}
+
+#[derive(Clone, Copy, Debug, PartialEq)]
+enum Outcome {
+    Refused,
+    TookAndPassed,
+    Took,
+    Passed,
+    DidNeither,
+    GaveNoBlock,
+}
+
+use Outcome::*;
+
+const OUTCOMES: [Outcome; 6] = [
+    Refused,
+    TookAndPassed,
+    Took,
+    Passed,
+    DidNeither,
+    GaveNoBlock,
+];
+
+/// The outcomes that each kind of call can have in a list. `next_all` is in
+/// none.
+const POSSIBLE: [&[Outcome]; Call::NAMES.len()] = [
+    &[Refused, Passed, DidNeither],
+    FROM_READING,
+    &[],
+    FROM_READING,
+    FROM_READING,
+    FROM_READING,
+    &[Refused, Took, DidNeither, GaveNoBlock],
+];
+
+const FROM_READING: &[Outcome] = &[Refused, TookAndPassed, Took, Passed, DidNeither];
+
+impl Outcomes {
+    pub fn new(what: &str) -> Self {
+        Self {
+            what: what.to_string(),
+            seen: Default::default(),
+        }
+    }
+
+    pub fn note(&mut self, call: Call, answer: &Answer) {
+        self.seen[call.kind()][outcome(answer) as usize] = true;
+    }
+
+    pub fn close(self, report: &mut Report) {
+        let mut group = Group::new(format!("readers, {}, every outcome seen", self.what));
+        for (kind, name) in Call::NAMES.into_iter().enumerate() {
+            for outcome in OUTCOMES {
+                group.agree(
+                    &format_args!("{name}, {outcome:?}"),
+                    ("seen", self.seen[kind][outcome as usize]),
+                    ("possible", POSSIBLE[kind].contains(&outcome)),
+                );
+            }
+        }
+        report.close(group);
+    }
+}
+
+fn outcome(answer: &Answer) -> Outcome {
+    if answer.number != ACCEPTED {
+        return Refused;
+    }
+    if let Found::Block { has_block: 0, .. } = answer.found {
+        return GaveNoBlock;
+    }
+    match (answer.taken > 0, answer.passed > 0) {
+        (true, true) => TookAndPassed,
+        (true, false) => Took,
+        (false, true) => Passed,
+        (false, false) => DidNeither,
+    }
+}

@@ -1,0 +1,208 @@
+//! Writes the crate's answers to reader calls as text, a call on a line:
+//!
+//! `R what lo hi buffer answer`, each a packed number of eight bytes.
+//!
+//! `what`, the highest byte first: kind, reader, the buffer's length, cursor,
+//! integer, fraction and exponent count, value. Kinds: see `Kind`. The value is
+//! that of a read or the size of a block, and 0 for other kinds.
+//!
+//! `answer` likewise: whether there is a byte or block (1 for a zero skip), the
+//! byte or the number of zeros (0 where there is neither), cursor, passed, the
+//! three counts, taken. For the part of a block it is instead the part's length
+//! and then its bytes, the last byte lowest.
+//!
+//! `buffer` has its first byte lowest.
+
+use std::io::{self, Write};
+
+use crate::readers::answer::{Answer, Found};
+use crate::readers::call::{Call, Case, COUNTED, READERS};
+use crate::readers::refusal::ACCEPTED;
+use crate::readers::words::compiled;
+use crate::readers::{draw, refusal};
+use crate::rng::Rng;
+
+const LONGEST: usize = 8;
+
+/// Lines for each kind and reader whose answer is telling, and of others.
+const TELLING: usize = 48;
+const OTHERS: usize = 32;
+
+#[derive(Clone, Copy)]
+enum Kind {
+    Peek = 0,
+    Next = 1,
+    ReadIfValueCased = 2,
+    NextAll = 3,
+    SkipZeros = 4,
+    TakeN = 5,
+    TakeNPart = 6,
+}
+
+const KINDS: [Kind; 7] = [
+    Kind::Peek,
+    Kind::Next,
+    Kind::ReadIfValueCased,
+    Kind::NextAll,
+    Kind::SkipZeros,
+    Kind::TakeN,
+    Kind::TakeNPart,
+];
+
+pub fn write(out: &mut impl Write, seed: u64) -> io::Result<()> {
+    let mut rng = Rng::new(seed, "record readers");
+    for kind in KINDS {
+        for &reader in kind.readers() {
+            write_lines(out, &mut rng, kind, reader)?;
+        }
+    }
+    Ok(())
+}
+
+fn write_lines(out: &mut impl Write, rng: &mut Rng, kind: Kind, reader: u8) -> io::Result<()> {
+    let mut telling = TELLING;
+    let mut others = OTHERS;
+    while telling + others > 0 {
+        let rust = rng.pick(compiled());
+        let word = rust.word();
+        let buffer = draw::buffer(rng, word, LONGEST);
+        let case = Case {
+            word,
+            buffer: &buffer,
+            state: draw::state(rng, &buffer),
+            reader,
+        };
+        let value = kind.value(rng, &case);
+        let call = kind.call(value);
+        if refusal::of_call(&case, call) != ACCEPTED {
+            continue;
+        }
+        let answer = rust.call(&case, call);
+        let wanted = if is_telling(&answer) {
+            &mut telling
+        } else {
+            &mut others
+        };
+        if *wanted > 0 {
+            *wanted -= 1;
+            write_line(out, kind, value, &case, &answer)?;
+        }
+    }
+    Ok(())
+}
+
+/// Separators were passed, and zeros skipped if that was asked for; or there is
+/// a block with something in it.
+fn is_telling(answer: &Answer) -> bool {
+    match answer.found {
+        Found::Byte { .. } => answer.passed > 0,
+        Found::Zeros(zeros) => answer.passed > 0 && zeros > 0,
+        Found::Block { .. } => answer.taken > 0,
+    }
+}
+
+impl Kind {
+    /// The readers that have such a call.
+    fn readers(self) -> &'static [u8] {
+        match self {
+            Self::SkipZeros | Self::TakeN | Self::TakeNPart => &COUNTED,
+            _ => &READERS,
+        }
+    }
+
+    /// A value for a call of this kind.
+    fn value(self, rng: &mut Rng, case: &Case) -> u8 {
+        match self {
+            Self::ReadIfValueCased => draw::value(rng, case.word, case.buffer),
+            Self::TakeN | Self::TakeNPart => rng.below(LONGEST as u64 + 2) as u8,
+            _ => 0,
+        }
+    }
+
+    fn call(self, value: u8) -> Call {
+        match self {
+            Self::Peek => Call::Peek,
+            Self::Next => Call::Next,
+            Self::ReadIfValueCased => Call::ReadIfValueCased(value),
+            Self::NextAll => Call::NextAll,
+            Self::SkipZeros => Call::SkipZeros,
+            Self::TakeN | Self::TakeNPart => Call::TakeN(value.into()),
+        }
+    }
+
+    fn packed(self, answer: &Answer) -> u64 {
+        match (self, answer.found) {
+            (Self::TakeNPart, Found::Block { part, .. }) => packed_part(part.bytes.unwrap_or(&[])),
+            _ => packed_answer(answer),
+        }
+    }
+}
+
+fn write_line(
+    out: &mut impl Write,
+    kind: Kind,
+    value: u8,
+    case: &Case,
+    answer: &Answer,
+) -> io::Result<()> {
+    let [integer, fraction, exponent] = case.state.counts;
+    let what = [
+        kind as usize,
+        case.reader.into(),
+        case.buffer.len(),
+        case.state.cursor,
+        integer,
+        fraction,
+        exponent,
+        value.into(),
+    ];
+    writeln!(
+        out,
+        "R {:016X} {:016X} {:016X} {:016X} {:016X}",
+        packed_numbers(what),
+        case.word.lo(),
+        case.word.hi(),
+        packed_buffer(case.buffer),
+        kind.packed(answer),
+    )
+}
+
+fn packed_answer(answer: &Answer) -> u64 {
+    let (is_there, found) = match answer.found {
+        Found::Byte { has_byte, byte } => (has_byte.into(), byte.into()),
+        Found::Zeros(zeros) => (1, zeros),
+        Found::Block { has_block, .. } => (has_block.into(), 0),
+    };
+    let [integer, fraction, exponent] = answer.state.counts;
+    packed_numbers([
+        is_there,
+        found,
+        answer.state.cursor,
+        answer.passed,
+        integer,
+        fraction,
+        exponent,
+        answer.taken,
+    ])
+}
+
+/// Eight numbers below 256, the first one highest.
+fn packed_numbers(numbers: [usize; 8]) -> u64 {
+    numbers
+        .iter()
+        .fold(0, |packed, &number| packed << 8 | number as u64)
+}
+
+/// Of a part of eight bytes the length is shifted out.
+fn packed_part(part: &[u8]) -> u64 {
+    part.iter().fold(part.len() as u64, |packed, &byte| {
+        packed << 8 | u64::from(byte)
+    })
+}
+
+fn packed_buffer(buffer: &[u8]) -> u64 {
+    buffer
+        .iter()
+        .rev()
+        .fold(0, |number, &byte| number << 8 | u64::from(byte))
+}
