@@ -1,6 +1,6 @@
 -- `vectors::call::repeat` meets its contract. Assumes nothing.
 use native.Mathlib.Omega.{arith}
-use Rattle.vectors.proofs.Repeating.{too-long, same-call, no-reader, asked}
+use Rattle.vectors.proofs.call.RecordedCalls.{too-long, same-call, no-reader, asked}
 use borrow.Author.Needs.{needs}
 use Rattle.vectors.proofs.call.repeat.Statement.{statement}
 use Rattle.vectors.proofs.call.repeat.Tie as tie

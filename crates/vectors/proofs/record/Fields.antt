@@ -1,4 +1,5 @@
--- Laws of a line taken apart: where a field ends, what one more field does, and all of them in order. Assumes nothing.
+-- A line's fields: where one ends, for `field_end`, what one more does, for `with_field`, and all of them in order, for `parse`.
+-- Assumes nothing.
 use Prim.Native.Nat.{ℕ, zero, suc, _+_, _-_, _≤_, _<_}
 use mathlib.Core.Path.{_≡_, refl, _∙_, ap}
 use mathlib.Core.List.{List, [], _∷_}
