@@ -190,16 +190,16 @@ pub fn repeat(what: u64, format: Format, bytes: u64) -> Repeated
     ensures { λ r. ⌜ r ≡ repeatedOf what format bytes ⌝ }
 {
     let buffer = buffer_of(bytes);
-    let all: &[u8] = &buffer;
+    let whole: &[u8] = &buffer;
     let end = byte_of(what, 2) as usize;
-    if end > all.len() {
+    if end > whole.len() {
         return Repeated::NoCall;
     }
     let who = reader_named(byte_of(what, 1));
     match who {
         Named::Known(reader) => made(
             byte_of(what, 0),
-            &all[0..end],
+            &whole[0..end],
             state_of(what, format),
             reader,
             byte_of(what, 7),

@@ -8,8 +8,8 @@ use Rattle.vectors.proofs.call.repeat.Tie as tie
 buffer-of-requires : tie.Need-buffer-of-requires
 buffer-of-requires c κs = search needs
 
-slice-aggregate-all : tie.Need-slice-aggregate-all
-slice-aggregate-all c = search needs
+slice-aggregate-whole : tie.Need-slice-aggregate-whole
+slice-aggregate-whole c = search needs
 
 byte-of-requires : tie.Need-byte-of-requires
 byte-of-requires c κs = search needs
@@ -77,7 +77,7 @@ repeat-spec =
     tie.close
     (tie.spec
     buffer-of-requires
-    slice-aggregate-all
+    slice-aggregate-whole
     byte-of-requires
     cast-end
     returns
