@@ -19,14 +19,14 @@ use Rattle.vectors.specs.declared.call.Repeated.the-variants.{Packed, No
 use Rattle.vectors.specs.Packed.{byteOf, withByte, lowByteBehind, allBehind}
 
 -- An answer's first two bytes: 1 and the byte or how many zeros, 0 and 0 where there is none, 2 and a refusal's number.
-abbrev pub found : Option ℕ → ℕ
-found none = 0
-found (some n) = lowByteBehind 1 n
+abbrev pub valueOrNone : Option ℕ → ℕ
+valueOrNone none = 0
+valueOrNone (some n) = lowByteBehind 1 n
 
 -- of a block: 1 and 0, whatever its size
-abbrev pub blockFound : Option ℕ → ℕ
-blockFound none = 0
-blockFound (some n) = lowByteBehind 1 0
+abbrev pub blockOrNone : Option ℕ → ℕ
+blockOrNone none = 0
+blockOrNone (some n) = lowByteBehind 1 0
 
 abbrev pub orRefused : ℕ → ℕ → ℕ
 orRefused number first = cond (eqb number 0) first (lowByteBehind 2 number)
@@ -37,13 +37,13 @@ withState first st taken passed =
     allBehind first (st .cursor ∷ passed ∷ st .integer .0 ∷ st .fraction .0 ∷ st .exponent .0 ∷ taken ∷ [])
 
 abbrev pub packedOutcome : Outcome → ℕ
-packedOutcome o = withState (orRefused (o .refusal) (found (o .byte))) (o .state) (o .taken) (o .passed)
+packedOutcome o = withState (orRefused (o .refusal) (valueOrNone (o .byte))) (o .state) (o .taken) (o .passed)
 
 abbrev pub packedSkip : SkipOutcome → ℕ
-packedSkip o = withState (orRefused (o .refusal) (found (o .zeros))) (o .state) (o .taken) (o .passed)
+packedSkip o = withState (orRefused (o .refusal) (valueOrNone (o .zeros))) (o .state) (o .taken) (o .passed)
 
 abbrev pub packedBlock : BlockOutcome → ℕ
-packedBlock o = withState (orRefused (o .refusal) (blockFound (o .block))) (o .state) (o .taken) (o .passed)
+packedBlock o = withState (orRefused (o .refusal) (blockOrNone (o .block))) (o .state) (o .taken) (o .passed)
 
 -- a block's part: its length, then its bytes
 unfoldable pub bytesBehind : ℕ → List ℕ → ℕ

@@ -3,7 +3,7 @@ ghost use mathlib.Core.Path.{_≡_};
 ghost use Rattle.reader.specs.Answer.{seenNumber, seenByte, readNumber, readByte, skipNumber, skipZeros, blockNumber, blockBytes};
 ghost use Rattle.reader.specs.Answer.{outcomeOf, readOutcomeOf, skipOutcomeOf, blockOutcomeOf};
 ghost use Rattle.reader.specs.Reading.{readingFor};
-ghost use Rattle.vectors.specs.Call.{orRefused, found, blockFound, withState, packedOutcome, packedSkip, packedBlock, packedPart};
+ghost use Rattle.vectors.specs.Call.{orRefused, valueOrNone, blockOrNone, withState, packedOutcome, packedSkip, packedBlock, packedPart};
 ghost use Rattle.vectors.specs.Call.{bufferOf, stateOf, answerTo, repeatedOf};
 use crate::packed::byte_of;
 use crate::packed::pushed;
@@ -80,7 +80,7 @@ fn packed_state(first: u64, state: State, taken: usize, passed: usize) -> u64
 }
 
 fn first_of_seen(seen: Seen) -> u64
-    ensures { λ r. ⌜ r ≡ orRefused (seenNumber seen) (found (seenByte seen)) ⌝ }
+    ensures { λ r. ⌜ r ≡ orRefused (seenNumber seen) (valueOrNone (seenByte seen)) ⌝ }
 {
     match seen {
         Seen::Byte(b) => pushed(1, b as usize),
@@ -90,7 +90,7 @@ fn first_of_seen(seen: Seen) -> u64
 }
 
 fn first_of_read(read: Read) -> u64
-    ensures { λ r. ⌜ r ≡ orRefused (readNumber read) (found (readByte read)) ⌝ }
+    ensures { λ r. ⌜ r ≡ orRefused (readNumber read) (valueOrNone (readByte read)) ⌝ }
 {
     match read {
         Read::Taken(b) => pushed(1, b as usize),
@@ -100,7 +100,7 @@ fn first_of_read(read: Read) -> u64
 }
 
 fn first_of_skip(skipped: Skipped) -> u64
-    ensures { λ r. ⌜ r ≡ orRefused (skipNumber skipped) (found (skipZeros skipped)) ⌝ }
+    ensures { λ r. ⌜ r ≡ orRefused (skipNumber skipped) (valueOrNone (skipZeros skipped)) ⌝ }
 {
     match skipped {
         Skipped::Zeros(zeros) => pushed(1, zeros),
@@ -109,7 +109,7 @@ fn first_of_skip(skipped: Skipped) -> u64
 }
 
 fn first_of_block(block: Block, taken: usize) -> u64
-    ensures { λ r. ⌜ r ≡ orRefused (blockNumber block) (blockFound (blockBytes block taken)) ⌝ }
+    ensures { λ r. ⌜ r ≡ orRefused (blockNumber block) (blockOrNone (blockBytes block taken)) ⌝ }
 {
     match block {
         Block::Taken => pushed(1, 0),
@@ -168,8 +168,9 @@ fn pack_part(part: &[u8]) -> u64
     packed
 }
 
-// 0 peek, 1 take, 2 read of one value, 3 takes to the end, 4 zero skip, 5 block take, 6 the part that a block is.
-fn made(kind: u8, s: &[u8], state: State, who: Reader, value: u8) -> Repeated
+// The packed answer to a call, by its kind: 0 peek, 1 take, 2 read of one value, 3 takes to the end, 4 zero skip, 5 block take, 6 the
+// part that a block is.
+fn answer_to(kind: u8, s: &[u8], state: State, who: Reader, value: u8) -> Repeated
     ensures { λ r. ⌜ r ≡ answerTo kind (readingFor state who) (now (s .entry)) state who value ⌝ }
 {
     match kind {
@@ -190,16 +191,16 @@ pub fn repeat(what: u64, format: Format, bytes: u64) -> Repeated
     ensures { λ r. ⌜ r ≡ repeatedOf what format bytes ⌝ }
 {
     let buffer = buffer_of(bytes);
-    let all: &[u8] = &buffer;
+    let whole: &[u8] = &buffer;
     let end = byte_of(what, 2) as usize;
-    if end > all.len() {
+    if end > whole.len() {
         return Repeated::NoCall;
     }
     let who = reader_named(byte_of(what, 1));
     match who {
-        Named::Known(reader) => made(
+        Named::Known(reader) => answer_to(
             byte_of(what, 0),
-            &all[0..end],
+            &whole[0..end],
             state_of(what, format),
             reader,
             byte_of(what, 7),

@@ -22,9 +22,9 @@ struct Text {
 
 // Takes the array by reference, where its length is known without a proof.
 fn write_start(bytes: &[u8; TEXT_ROOM], used: usize) {
-    let all: &[u8] = bytes;
-    if used <= all.len() {
-        io::write_all(STDOUT_FILENO, &all[0..used]);
+    let whole: &[u8] = bytes;
+    if used <= whole.len() {
+        io::write_all(STDOUT_FILENO, &whole[0..used]);
     }
 }
 

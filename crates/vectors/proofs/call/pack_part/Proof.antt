@@ -6,7 +6,7 @@ use lib.ListN.{length, drop}
 use denote.Ref.{now}
 use borrow.Author.Needs.{needs}
 use Rattle.vectors.specs.Call.{bytesBehind}
-use Rattle.vectors.proofs.Packing.{one-behind, all-behind}
+use Rattle.vectors.proofs.call.PackedAnswers.{one-behind, all-behind}
 use Rattle.vectors.proofs.call.pack_part.Statement.{statement}
 use Rattle.vectors.proofs.call.pack_part.Tie as tie
 

@@ -1,6 +1,6 @@
 -- `vectors::call::repeat` meets its contract. Assumes nothing.
 use native.Mathlib.Omega.{arith}
-use Rattle.vectors.proofs.Repeating.{too-long, same-call, no-reader, asked}
+use Rattle.vectors.proofs.call.RecordedCalls.{too-long, same-call, no-reader, asked}
 use borrow.Author.Needs.{needs}
 use Rattle.vectors.proofs.call.repeat.Statement.{statement}
 use Rattle.vectors.proofs.call.repeat.Tie as tie
@@ -8,8 +8,8 @@ use Rattle.vectors.proofs.call.repeat.Tie as tie
 buffer-of-requires : tie.Need-buffer-of-requires
 buffer-of-requires c κs = search needs
 
-slice-aggregate-all : tie.Need-slice-aggregate-all
-slice-aggregate-all c = search needs
+slice-aggregate-whole : tie.Need-slice-aggregate-whole
+slice-aggregate-whole c = search needs
 
 byte-of-requires : tie.Need-byte-of-requires
 byte-of-requires c κs = search needs
@@ -34,14 +34,14 @@ enum-known-who c = search needs
 byte-of-requires-3 : tie.Need-byte-of-requires-3
 byte-of-requires-3 c κs = search needs
 
-sub-made : tie.Need-sub-made
-sub-made c = search needs
+sub-answer-to : tie.Need-sub-answer-to
+sub-answer-to c = search needs
 
-part-made-start : tie.Need-part-made-start
-part-made-start c = search needs
+part-answer-to-start : tie.Need-part-answer-to-start
+part-answer-to-start c = search needs
 
-part-made-end : tie.Need-part-made-end
-part-made-end c = search needs
+part-answer-to-end : tie.Need-part-answer-to-end
+part-answer-to-end c = search needs
 
 state-of-requires : tie.Need-state-of-requires
 state-of-requires c κs = search needs
@@ -49,8 +49,8 @@ state-of-requires c κs = search needs
 byte-of-requires-4 : tie.Need-byte-of-requires-4
 byte-of-requires-4 c κs = search needs
 
-made-requires : tie.Need-made-requires
-made-requires c κs = search needs
+answer-to-requires : tie.Need-answer-to-requires
+answer-to-requires c κs = search needs
 
 enum-told : tie.Need-enum-told
 enum-told c = search needs
@@ -62,9 +62,9 @@ returns-2 c =
     let end = c .before .before .before .before .before .before .before .before .before .before .before .byte-of .ensures in
     let r = c .before .before .before .before .before .before .who .given .0 .0 in
     asked (a .what) (a .bytes) (a .format) _ _ buffer end (omega arith) _ _ (c .before .before .before .before .before .before .before .before .before .byte-of2 .ensures) (c .before .before .before .before .before .before .before .before .reader-named .ensures)
-    r (c .made .result) (c .before .before .before .before .before .before .who .given .1)
-    (same-call (a .what) (a .bytes) (a .format) _ _ buffer end r (c .made .result) _ _ _
-    (c .before .before .before .before .byte-of3 .ensures) (c .before .byte-of4 .ensures) (c .before .before .state-of .ensures) (c .made .ensures))
+    r (c .answer-to .result) (c .before .before .before .before .before .before .who .given .1)
+    (same-call (a .what) (a .bytes) (a .format) _ _ buffer end r (c .answer-to .result) _ _ _
+    (c .before .before .before .before .byte-of3 .ensures) (c .before .byte-of4 .ensures) (c .before .before .state-of .ensures) (c .answer-to .ensures))
 
 returns-3 : tie.Need-returns-3
 returns-3 c =
@@ -77,7 +77,7 @@ repeat-spec =
     tie.close
     (tie.spec
     buffer-of-requires
-    slice-aggregate-all
+    slice-aggregate-whole
     byte-of-requires
     cast-end
     returns
@@ -85,12 +85,12 @@ repeat-spec =
     reader-named-requires
     enum-known-who
     byte-of-requires-3
-    sub-made
-    part-made-start
-    part-made-end
+    sub-answer-to
+    part-answer-to-start
+    part-answer-to-end
     state-of-requires
     byte-of-requires-4
-    made-requires
+    answer-to-requires
     enum-told
     returns-2
     returns-3)

@@ -24,8 +24,8 @@ returns : tie.Need-returns
 unfolding filledRecord
 returns c =
     let filled = c .before .before .before .before .args .filled in
-    let all : filled - 0 ≡ filled = omega arith in
-    rw (lt-ltb _ _ (c .before .before .if1 .taken)) (rw all at (c .parse .ensures))
+    let whole : filled - 0 ≡ filled = omega arith in
+    rw (lt-ltb _ _ (c .before .before .if1 .taken)) (rw whole at (c .parse .ensures))
 
 none-requires : tie.Need-none-requires
 none-requires c κs = search needs

@@ -6,7 +6,7 @@ use lib.ListN.{length, drop}
 use denote.Ref.{now}
 use borrow.Author.Needs.{needs}
 use Rattle.vectors.specs.Lines.{Taking, allTaken}
-use Rattle.vectors.proofs.Taking.{one-taken, all-taken}
+use Rattle.vectors.proofs.lines.Chunks.{one-taken, all-taken}
 use Rattle.vectors.proofs.lines.take_in.Statement.{statement}
 use Rattle.vectors.proofs.lines.take_in.Tie as tie
 

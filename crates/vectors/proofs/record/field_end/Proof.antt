@@ -5,7 +5,7 @@ use native.Mathlib.Omega.{arith}
 use lib.ListN.{length, drop}
 use denote.Ref.{now}
 use Rattle.vectors.specs.Line.{untilSpace}
-use Rattle.vectors.proofs.Lining.{at-space, before-space, at-end}
+use Rattle.vectors.proofs.record.Fields.{at-space, before-space, at-end}
 use Rattle.vectors.proofs.record.field_end.Statement.{statement}
 use Rattle.vectors.proofs.record.field_end.Tie as tie
 

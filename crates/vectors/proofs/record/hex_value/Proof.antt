@@ -1,7 +1,7 @@
 -- `vectors::record::hex_value` meets its contract, by a law for each range of bytes. Assumes nothing.
 use borrow.Author.Needs.{needs}
 use native.Mathlib.Omega.{arith}
-use Rattle.vectors.proofs.Hex.{figure, letter, below, between, above}
+use Rattle.vectors.proofs.record.HexNumbers.{figure, letter, below, between, above}
 use Rattle.vectors.proofs.record.hex_value.Statement.{statement}
 use Rattle.vectors.proofs.record.hex_value.Tie as tie
 

@@ -6,7 +6,7 @@ use lib.ListN.{length, drop}
 use denote.Ref.{now}
 use borrow.Author.Needs.{needs}
 use Rattle.vectors.specs.Line.{withFields, recordOf}
-use Rattle.vectors.proofs.Lining.{first-fields, no-line, next-field, fields-end}
+use Rattle.vectors.proofs.record.Fields.{first-fields, no-line, next-field, fields-end}
 use Rattle.vectors.proofs.record.parse.Statement.{statement}
 use Rattle.vectors.proofs.record.parse.Tie as tie
 

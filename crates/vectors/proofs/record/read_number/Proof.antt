@@ -8,7 +8,7 @@ use denote.Ref.{now}
 use mir.Val.{Fits}
 use mir.Syntax.{w64}
 use Rattle.vectors.specs.Hex.{readFrom}
-use Rattle.vectors.proofs.Hex.{empty, long, read-hex, read-end, read-digit, read-other, grows, fits}
+use Rattle.vectors.proofs.record.HexNumbers.{empty, long, read-hex, read-end, read-digit, read-other, grows, fits}
 use Rattle.vectors.proofs.record.read_number.Statement.{statement}
 use Rattle.vectors.proofs.record.read_number.Tie as tie
 

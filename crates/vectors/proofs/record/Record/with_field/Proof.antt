@@ -2,7 +2,7 @@
 use mathlib.Core.Path.{_∙_, sym}
 use native.Mathlib.Omega.{arith}
 use denote.Ref.{now}
-use Rattle.vectors.proofs.Lining.{no-room, no-field, no-space, with-number}
+use Rattle.vectors.proofs.record.Fields.{no-room, no-field, no-space, with-number}
 use borrow.Author.Needs.{needs}
 use Rattle.vectors.proofs.record.Record.with_field.Statement.{statement}
 use Rattle.vectors.proofs.record.Record.with_field.Tie as tie

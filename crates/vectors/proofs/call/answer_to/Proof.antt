@@ -1,11 +1,11 @@
--- `vectors::call::made` meets its contract. Assumes nothing.
+-- `vectors::call::answer_to` meets its contract. Assumes nothing.
 use mathlib.Core.Path.{_∙_, ap}
 use borrow.Author.Tests.{ne-eqb}
 use Rattle.vectors.specs.declared.call.Repeated.the-variants.{Packed}
 use Rattle.vectors.specs.Call.{packedOutcome, packedSkip, packedBlock, packedPart, answerTo}
 use borrow.Author.Needs.{needs}
-use Rattle.vectors.proofs.call.made.Statement.{statement}
-use Rattle.vectors.proofs.call.made.Tie as tie
+use Rattle.vectors.proofs.call.answer_to.Statement.{statement}
+use Rattle.vectors.proofs.call.answer_to.Tie as tie
 
 peek-requires : tie.Need-peek-requires
 peek-requires c κs = search needs
@@ -96,8 +96,8 @@ returns-8 c =
       ne-eqb _ _ (rest .1),
     )
 
-pub made-spec : {M : Type 1} → statement M
-made-spec =
+pub answer-to-spec : {M : Type 1} → statement M
+answer-to-spec =
     tie.close
     (tie.spec
     peek-requires

@@ -1,4 +1,4 @@
--- A recorded call from what the code took out of its numbers. Assumes nothing.
+-- A recorded call is that of the definition, from what `repeat` took out of its numbers. Assumes nothing.
 use Prim.Native.Nat.{ℕ, _-_, _≤_, _<_}
 use mathlib.Core.Path.{_≡_, refl, _∙_, ap}
 use mathlib.Core.List.{List}

@@ -1,4 +1,5 @@
--- Laws of numbers in hex: the value of each range of bytes, and what one more digit does to a number. Assumes nothing.
+-- Numbers in hex: the value of each range of bytes, for `hex_value`, and what one more digit does to a number, for `read_number`.
+-- Assumes nothing.
 use Prim.Native.Nat.{ℕ, _+_, _-_, _*_, _^_, _≤_, _<_}
 use mathlib.Core.Path.{_≡_}
 use mathlib.Core.List.{List}

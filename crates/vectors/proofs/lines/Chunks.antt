@@ -1,4 +1,4 @@
--- Laws of an input taken in byte by byte. Assumes nothing.
+-- A chunk of the input taken in byte by byte, for `take_in`. Assumes nothing.
 use Prim.Native.Nat.{ℕ, _+_, _≤_, _<_}
 use mathlib.Core.Path.{_≡_}
 use mathlib.Core.List.{List}

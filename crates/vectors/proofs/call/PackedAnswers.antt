@@ -1,4 +1,5 @@
--- Laws of packed answers: what a refused call begins with, and the bytes of a part one by one. Assumes nothing.
+-- Packed answers: what a refused call begins with, for the functions `first_of_..`, and the bytes of a part one by one, for
+-- `pack_part`. Assumes nothing.
 use Prim.Native.Nat.{ℕ, _+_, _≤_, _<_}
 use mathlib.Core.Path.{_≡_, refl}
 use mathlib.Core.List.{List}

@@ -1,4 +1,5 @@
--- Laws of a line taken apart: where a field ends, what one more field does, and all of them in order. Assumes nothing.
+-- A line's fields: where one ends, for `field_end`, what one more does, for `with_field`, and all of them in order, for `parse`.
+-- Assumes nothing.
 use Prim.Native.Nat.{ℕ, zero, suc, _+_, _-_, _≤_, _<_}
 use mathlib.Core.Path.{_≡_, refl, _∙_, ap}
 use mathlib.Core.List.{List, [], _∷_}
@@ -33,20 +34,20 @@ module _ (r : Record) (field : List ℕ) where
   module _ (room : r .count < 8) where
     pub no-field : length field ≤ 0 → noRecord ≡ withField r field
     unfolding withField
-    no-field none = rw (lt-ltb (r .count) 8 room, le-ltb 0 (length field) none)
+    no-field blank = rw (lt-ltb (r .count) 8 room, le-ltb 0 (length field) blank)
 
-    module _ (some : 0 < length field) where
+    module _ (filled : 0 < length field) where
       pub no-space : (getD field 0 0 ≡ 32 → ⊥) → noRecord ≡ withField r field
       unfolding withField
-      no-space other = rw (lt-ltb (r .count) 8 room, lt-ltb 0 (length field) some, ne-eqb (getD field 0 0) 32 other)
+      no-space other = rw (lt-ltb (r .count) 8 room, lt-ltb 0 (length field) filled, ne-eqb (getD field 0 0) 32 other)
 
       pub with-number : (n : Number) → getD field 0 0 ≡ 32 → n ≡ readHex (take (length field - 1) (drop 1 field))
           → added r (length field - 1) n ≡ withField r field
       unfolding withField
       with-number n space is =
-          let all : take (length field - 1) (drop 1 field) ≡ drop 1 field =
+          let whole : take (length field - 1) (drop 1 field) ≡ drop 1 field =
           take-all (length field - 1) (drop 1 field) (rw (length-drop 1 field) (omega arith)) in
-          rw (lt-ltb (r .count) 8 room, lt-ltb 0 (length field) some, eq-eqb (getD field 0 0) 32 space, is, all)
+          rw (lt-ltb (r .count) 8 room, lt-ltb 0 (length field) filled, eq-eqb (getD field 0 0) 32 space, is, whole)
 
 -- bytes that are still to be passed are passed
 passed-over : (left : ℕ) (r : Record) (l : List ℕ) → withFields left r l ≡ withFields 0 r (drop left l)
@@ -64,17 +65,17 @@ a-field r c rest = refl
 module _ (line : List ℕ) where
   pub first-fields : (r : Record) → 0 < length line → r ≡ ofKind (getD line 0 0) → withFields 0 r (drop 1 line) ≡ recordOf line
   unfolding recordOf
-  first-fields r some is = rw is (go line some) where
+  first-fields r filled is = rw is (go line filled) where
     go : (l : List ℕ) → 0 < length l → withFields 0 (ofKind (getD l 0 0)) (drop 1 l) ≡ recordOf l
-    go [] none = absurd (omega arith)
-    go (kind ∷ rest) some = refl
+    go [] filled = absurd (omega arith)
+    go (kind ∷ rest) filled = refl
 
   pub no-line : length line ≤ 0 → noRecord ≡ recordOf line
   unfolding recordOf
-  no-line none = go line none where
+  no-line blank = go line blank where
     go : (l : List ℕ) → length l ≤ 0 → noRecord ≡ recordOf l
-    go [] none = refl
-    go (kind ∷ rest) none = absurd (omega arith)
+    go [] blank = refl
+    go (kind ∷ rest) blank = absurd (omega arith)
 
   pub next-field : (r after : Record) (at end : ℕ) → at < length line → end ≡ at + 1 + untilSpace (drop (at + 1) line)
       → after ≡ withField r (take (end - at) (drop at line)) → withFields 0 r (drop at line) ≡ withFields 0 after (drop end line)

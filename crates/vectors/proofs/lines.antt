@@ -1,0 +1,2 @@
+-- An input taken in, however reads cut it (src/lines.rt).
+mod Chunks
