@@ -28,7 +28,7 @@ use Rattle.reader.proofs.iterator.Zeros.{zero-takes-one, skip-admitted}
 use Rattle.reader.proofs.Booleans.{contradicts}
 
 -- there is a byte at the place, and it is `0`
-abbrev zeroAt : List ℕ → ℕ → Bool
+abbrev pub zeroAt : List ℕ → ℕ → Bool
 zeroAt s place = ltb place (length s) && isZero (getD s place 0)
 
 zero-there : (s : List ℕ) (place : ℕ) → zeroAt s place ≡ true → (place < length s) × (isZero (getD s place 0) ≡ true)

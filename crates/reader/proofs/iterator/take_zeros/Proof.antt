@@ -1,14 +1,15 @@
--- `reader::iterator::take_zeros` meets its contract: the loop's numbers are those of a list of reads of `0` (proofs/Skipping.antt), and
+-- `reader::iterator::take_zeros` meets its contract: the loop's numbers are those of a list of reads of `0` (ZeroLoop), and
 -- each turn moves the place on. Assumes nothing.
-use mathlib.Core.Path.{_∙_, sym}
-use Prim.Native.Nat.{_-_}
+use mathlib.Core.Path.{_≡_, _∙_, sym}
+use mathlib.Core.Bool.{true}
+use Prim.Native.Nat.{ℕ, _-_, _<_}
 use native.Mathlib.Omega.{arith}
 use borrow.Author.Needs.{needs}
 use borrow.Author.Tests.{not-true, not-false}
 use lib.Dec.{eqb}
 use lib.ListN.{length}
 use Rattle.reader.specs.Reading.{readingWith}
-use Rattle.reader.proofs.iterator.ZeroLoop.{plain-zero, Skipping, skipping-starts, skipping-sums, skipping-room, skipping-on, skipping-by-one, skipping-over}
+use Rattle.reader.proofs.iterator.ZeroLoop.{zeroAt, PlainZero, plain-zero, Skipping, skipping-starts, skipping-sums, skipping-room, skipping-on, skipping-by-one, skipping-over}
 use Rattle.reader.proofs.iterator.take_zeros.Statement.{statement}
 use Rattle.reader.proofs.iterator.take_zeros.Tie as tie
 
@@ -32,33 +33,30 @@ loop-holds c =
 is-zero-at-requires : tie.Need-is-zero-at-requires Inv-loop μ-loop
 is-zero-at-requires c κs = search needs
 
-add-at : tie.Need-add-at Inv-loop μ-loop
-add-at c =
+-- a turn on a zero that is no separator: there is room for one more
+plain : (c : tie.Then1 Inv-loop μ-loop) → PlainZero (c .before .before .before .before .before .args .syntax) (c .before .before .before .before .before .args .s .now) (c .before .before .loop .at)
+plain c = plain-zero _ _ _ (c .before .is-zero-at .result) (c .before .is-zero-at .ensures) (c .if1 .taken)
+
+abbrev size : (c : tie.Then1 Inv-loop μ-loop) → ℕ
+size c = length (c .before .before .before .before .before .args .s .now)
+
+room : (c : tie.Then1 Inv-loop μ-loop) → (c .before .before .loop .at < size c) × (c .before .before .loop .count < size c) × (c .before .before .loop .taken < size c)
+room c =
     let l = c .before .before in
     let a = l .before .before .before .args in
-    let plain = plain-zero (a .syntax) (a .s .now) (l .loop .at) (c .before .is-zero-at .result) (c .before .is-zero-at .ensures) (c .if1 .taken) in
-    omega (arith, skipping-room (readingWith (a .syntax)) (a .s .now) (a .reader) (a .state) (l .loop .at) (l .loop .count) (l .loop .taken) (l .loop .passed) (l .loop .inv) (l .loop .at) (omega arith) (plain .zero) .0)
+    skipping-room (readingWith (a .syntax)) (a .s .now) (a .reader) (a .state) (l .loop .at) (l .loop .count) (l .loop .taken) (l .loop .passed) (l .loop .inv) (l .loop .at) (omega arith) (plain c .zero)
+
+add-at : tie.Need-add-at Inv-loop μ-loop
+add-at c = omega (arith, room c .0)
 
 add-count : tie.Need-add-count Inv-loop μ-loop
-add-count c =
-    let l = c .before .before in
-    let a = l .before .before .before .args in
-    let plain = plain-zero (a .syntax) (a .s .now) (l .loop .at) (c .before .is-zero-at .result) (c .before .is-zero-at .ensures) (c .if1 .taken) in
-    omega (arith, skipping-room (readingWith (a .syntax)) (a .s .now) (a .reader) (a .state) (l .loop .at) (l .loop .count) (l .loop .taken) (l .loop .passed) (l .loop .inv) (l .loop .at) (omega arith) (plain .zero) .1)
+add-count c = omega (arith, room c .1)
 
 add-taken : tie.Need-add-taken Inv-loop μ-loop
-add-taken c =
-    let l = c .before .before in
-    let a = l .before .before .before .args in
-    let plain = plain-zero (a .syntax) (a .s .now) (l .loop .at) (c .before .is-zero-at .result) (c .before .is-zero-at .ensures) (c .if1 .taken) in
-    omega (arith, skipping-room (readingWith (a .syntax)) (a .s .now) (a .reader) (a .state) (l .loop .at) (l .loop .count) (l .loop .taken) (l .loop .passed) (l .loop .inv) (l .loop .at) (omega arith) (plain .zero) .2)
+add-taken c = omega (arith, room c .2)
 
 loop-less : tie.Need-loop-less Inv-loop μ-loop
-loop-less c =
-    let l = c .before .before in
-    let a = l .before .before .before .args in
-    let plain = plain-zero (a .syntax) (a .s .now) (l .loop .at) (c .before .is-zero-at .result) (c .before .is-zero-at .ensures) (c .if1 .taken) in
-    omega (arith, skipping-room (readingWith (a .syntax)) (a .s .now) (a .reader) (a .state) (l .loop .at) (l .loop .count) (l .loop .taken) (l .loop .passed) (l .loop .inv) (l .loop .at) (omega arith) (plain .zero) .0)
+loop-less c = omega (arith, room c .0)
 
 loop-again : tie.Need-loop-again Inv-loop μ-loop
 unfolding readingWith
@@ -66,9 +64,8 @@ loop-again c =
     let l = c .before .before in
     let b = l .before .before .before in
     let a = b .args in
-    let plain = plain-zero (a .syntax) (a .s .now) (l .loop .at) (c .before .is-zero-at .result) (c .before .is-zero-at .ensures) (c .if1 .taken) in
     skipping-by-one (readingWith (a .syntax)) (a .s .now) (a .reader) (a .state) (b .pre) (l .loop .at) (l .loop .count) (l .loop .taken) (l .loop .passed) (l .loop .inv)
-    (plain .stays (eqb (l .loop .count) 0)) (plain .zero)
+    (plain c .stays (eqb (l .loop .count) 0)) (plain c .zero)
 
 place-at-requires : tie.Need-place-at-requires Inv-loop μ-loop
 place-at-requires c κs = omega (arith, c .before .before .loop .inv .stands .inside)
@@ -85,53 +82,42 @@ add-passed c =
 is-zero-at-requires-2 : tie.Need-is-zero-at-requires-2 Inv-loop μ-loop
 is-zero-at-requires-2 c κs = search needs
 
-add-at-2 : tie.Need-add-at-2 Inv-loop μ-loop
-add-at-2 c =
-    let z = c .before in
-    let p = z .before in
+-- a turn that passes separators first: likewise
+zero-found : (c : tie.Else2 Inv-loop μ-loop) → zeroAt (c .before .before .before .before .before .before .before .before .args .s .now) (c .before .before .place-at .result) ≡ true
+zero-found c = sym (c .before .is-zero-at2 .ensures) ∙ not-false _ (c .if2 .left)
+
+abbrev size-2 : (c : tie.Else2 Inv-loop μ-loop) → ℕ
+size-2 c = length (c .before .before .before .before .before .before .before .before .args .s .now)
+
+room-2 : (c : tie.Else2 Inv-loop μ-loop)
+    → (c .before .before .place-at .result < size-2 c) × (c .before .before .before .before .before .loop .count < size-2 c) × (c .before .before .before .before .before .loop .taken < size-2 c)
+room-2 c =
+    let p = c .before .before in
     let l = p .before .before .before in
     let a = l .before .before .before .args in
-    let zero = sym (z .is-zero-at2 .ensures) ∙ not-false _ (c .if2 .left) in
-    omega (arith, skipping-room (readingWith (a .syntax)) (a .s .now) (a .reader) (a .state) (l .loop .at) (l .loop .count) (l .loop .taken) (l .loop .passed) (l .loop .inv) (p .place-at .result) (omega (arith, p .place-at .ensures .0)) zero .0)
+    skipping-room (readingWith (a .syntax)) (a .s .now) (a .reader) (a .state) (l .loop .at) (l .loop .count) (l .loop .taken) (l .loop .passed) (l .loop .inv) (p .place-at .result) (omega (arith, p .place-at .ensures .0)) (zero-found c)
+
+add-at-2 : tie.Need-add-at-2 Inv-loop μ-loop
+add-at-2 c = omega (arith, room-2 c .0)
 
 add-count-2 : tie.Need-add-count-2 Inv-loop μ-loop
-add-count-2 c =
-    let z = c .before in
-    let p = z .before in
-    let l = p .before .before .before in
-    let a = l .before .before .before .args in
-    let zero = sym (z .is-zero-at2 .ensures) ∙ not-false _ (c .if2 .left) in
-    omega (arith, skipping-room (readingWith (a .syntax)) (a .s .now) (a .reader) (a .state) (l .loop .at) (l .loop .count) (l .loop .taken) (l .loop .passed) (l .loop .inv) (p .place-at .result) (omega (arith, p .place-at .ensures .0)) zero .1)
+add-count-2 c = omega (arith, room-2 c .1)
 
 add-taken-2 : tie.Need-add-taken-2 Inv-loop μ-loop
-add-taken-2 c =
-    let z = c .before in
-    let p = z .before in
-    let l = p .before .before .before in
-    let a = l .before .before .before .args in
-    let zero = sym (z .is-zero-at2 .ensures) ∙ not-false _ (c .if2 .left) in
-    omega (arith, skipping-room (readingWith (a .syntax)) (a .s .now) (a .reader) (a .state) (l .loop .at) (l .loop .count) (l .loop .taken) (l .loop .passed) (l .loop .inv) (p .place-at .result) (omega (arith, p .place-at .ensures .0)) zero .2)
+add-taken-2 c = omega (arith, room-2 c .2)
 
 loop-less-2 : tie.Need-loop-less-2 Inv-loop μ-loop
-loop-less-2 c =
-    let z = c .before in
-    let p = z .before in
-    let l = p .before .before .before in
-    let a = l .before .before .before .args in
-    let zero = sym (z .is-zero-at2 .ensures) ∙ not-false _ (c .if2 .left) in
-    omega (arith, p .place-at .ensures .0, skipping-room (readingWith (a .syntax)) (a .s .now) (a .reader) (a .state) (l .loop .at) (l .loop .count) (l .loop .taken) (l .loop .passed) (l .loop .inv) (p .place-at .result) (omega (arith, p .place-at .ensures .0)) zero .0)
+loop-less-2 c = omega (arith, c .before .before .place-at .ensures .0, room-2 c .0)
 
 loop-again-2 : tie.Need-loop-again-2 Inv-loop μ-loop
 unfolding readingWith
 loop-again-2 c =
-    let z = c .before in
-    let p = z .before in
+    let p = c .before .before in
     let l = p .before .before .before in
     let b = l .before .before .before in
     let a = b .args in
-    let zero = sym (z .is-zero-at2 .ensures) ∙ not-false _ (c .if2 .left) in
     skipping-on (readingWith (a .syntax)) (a .s .now) (a .reader) (a .state) (b .pre) (l .loop .at) (l .loop .count) (l .loop .taken) (l .loop .passed) (l .loop .inv)
-    (p .place-at .result) (p .place-at .ensures .0) zero
+    (p .place-at .result) (p .place-at .ensures .0) (zero-found c)
 
 moved-requires : tie.Need-moved-requires Inv-loop μ-loop
 moved-requires c κs = search needs
