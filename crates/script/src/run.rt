@@ -14,11 +14,12 @@ use crate::line::reply_line;
 use crate::record::Call;
 use crate::record::Record;
 use crate::refusal::Refusal;
+use reader::open::Opened;
+use reader::open::open;
 use reader::state::Named;
 use reader::state::Reader;
 use reader::state::State;
 use reader::state::reader_named;
-use word::format_flags::Format;
 
 // The most bytes of text.
 pub const MOST_TEXT: usize = 4096;
@@ -64,16 +65,21 @@ fn add_text(text: &mut [u8], n: usize, b: u8, out: &mut [u8], at: usize) -> Resp
     stop(Refusal::TextFull, out, at)
 }
 
-fn open_text(n: usize, format: Format, out: &mut [u8], at: usize) -> Response
+fn open_text(n: usize, lo: u64, hi: u64, out: &mut [u8], at: usize) -> Response
     requires { ⌜ at + longestLine ≤ length (now out) ⌝ }
-    ensures { λ r. ⌜ ((buffer : List ℕ) → Responds (openText (take n buffer) format) buffer (now (out .entry)) at (now (out .exit)) r) ⌝ }
+    ensures { λ r. ⌜ ((buffer : List ℕ) → Responds (openText (take n buffer) lo hi) buffer (now (out .entry)) at (now (out .exit)) r) ⌝ }
 {
-    let answer = format.error().number();
-    let end = open_line(out, at, answer as usize);
-    if answer == 0 {
-        return responded(Stage::Opened(n, State::fresh(format)), end);
+    let answer = open(lo, hi);
+    match answer {
+        Opened::Fresh(state) => {
+            let end = open_line(out, at, 0);
+            responded(Stage::Opened(n, state), end)
+        }
+        Opened::Refused(number) => {
+            let end = open_line(out, at, number as usize);
+            responded(Stage::Gathering(n), end)
+        }
     }
-    responded(Stage::Gathering(n), end)
 }
 
 // A call before an accepted open.
@@ -103,7 +109,7 @@ fn gathering_response(
         Record::Unknown => stop(Refusal::Unknown, out, at),
         Record::CutShort => stop(Refusal::CutShort, out, at),
         Record::Text(b) => add_text(text, n, b, out, at),
-        Record::Open(format) => open_text(n, format, out, at),
+        Record::Open(lo, hi) => open_text(n, lo, hi, out, at),
         Record::Call(by, call) => early_call(by, out, at),
     }
 }
@@ -170,7 +176,7 @@ fn opened_response(
         Record::Unknown => stop(Refusal::Unknown, out, at),
         Record::CutShort => stop(Refusal::CutShort, out, at),
         Record::Text(b) => stop(Refusal::OutOfTurn, out, at),
-        Record::Open(format) => stop(Refusal::OutOfTurn, out, at),
+        Record::Open(lo, hi) => stop(Refusal::OutOfTurn, out, at),
         Record::Call(by, call) => opened_call(text, n, state, by, call, out, at),
     }
 }
