@@ -96,7 +96,7 @@ module _ (stage : Stage) (room : ℕ) (ended : Bool) (size there : ℕ) (is : Bo
 
 -- where the loop ends with the input nothing is left, and where it ends before, the next record is not due
 pub nothing-due : (input : List ℕ) (used : ℕ) (stage : Stage) (room : ℕ) (ended : Bool) → length input ≤ used → nextIsDue stage room ended (drop used input) ≡ false
-nothing-due input used stage room ended all = rw (drop-all input used all)
+nothing-due input used stage room ended past = rw (drop-all input used past)
 
 pub not-due : (input : List ℕ) (used : ℕ) (stage : Stage) (room : ℕ) (ended : Bool) (size there : ℕ) (is : Bool) → used < length input
     → is ≡ isDue stage room ended size there → is ≡ false → size ≡ bodyLength (kindOf (getD input used 0))

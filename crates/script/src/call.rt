@@ -125,7 +125,7 @@ fn block_reply(a: BlockAnswer) -> Reply
 }
 
 // Makes the call, as the word of the state says.
-pub fn made(text: &[u8], state: State, who: Reader, call: Call) -> Reply
+pub fn reply_to(text: &[u8], state: State, who: Reader, call: Call) -> Reply
     ensures { λ r. ⌜ r ≡ replyOf (answerTo readingOn (now (text .entry)) state (callBy call who)) ⌝ }
 {
     match call {

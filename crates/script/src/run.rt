@@ -6,7 +6,7 @@ ghost use lib.ListN.{length, take};
 ghost use Rattle.script.specs.Line.{longestLine};
 ghost use Rattle.script.specs.Run.{mostText, runIn, stops, addText, openText, gatheringCall, callResponse, openedCall, gatheringResponse, openedResponse, respond as respond·, Responds};
 ghost use Rattle.reader.specs.State.{readerNamed};
-use crate::call::made;
+use crate::call::reply_to;
 use crate::call::number;
 use crate::line::open_line;
 use crate::line::refusal_line;
@@ -136,7 +136,7 @@ fn call_line(
     ensures { λ r. ⌜ Responds (callResponse (take n (now (text .entry))) state reader call) (now (text .entry)) (now (out .entry)) at (now (out .exit)) r ⌝ }
 {
     let size = text_length(text, n);
-    let reply = made(&text[0..size], state, reader, call);
+    let reply = reply_to(&text[0..size], state, reader, call);
     let end = reply_line(out, at, number(call), reply);
     let next = reply.state;
     responded(Stage::Opened(n, next), end)

@@ -8,17 +8,17 @@ use Rattle.script.proofs.run.call_line.Tie as tie
 text-length-requires : tie.Need-text-length-requires
 text-length-requires c κs = search needs
 
-sub-made : tie.Need-sub-made
-sub-made c = search needs
+sub-reply-to : tie.Need-sub-reply-to
+sub-reply-to c = search needs
 
-part-made-start : tie.Need-part-made-start
-part-made-start c = search needs
+part-reply-to-start : tie.Need-part-reply-to-start
+part-reply-to-start c = search needs
 
-part-made-end : tie.Need-part-made-end
-part-made-end c = search needs
+part-reply-to-end : tie.Need-part-reply-to-end
+part-reply-to-end c = search needs
 
-made-requires : tie.Need-made-requires
-made-requires c κs = search needs
+reply-to-requires : tie.Need-reply-to-requires
+reply-to-requires c κs = search needs
 
 number-requires : tie.Need-number-requires
 number-requires c κs = search needs
@@ -35,17 +35,17 @@ same-length c = search needs
 returns : tie.Need-returns
 returns c =
     let a = c .before .before .before .before .before .before .before .before .before .before .before .before .args in
-    call-responds (a .text .now) (c .before .before .before .before .before .before .before .before .before .text-length .result) (a .n) (a .state) (a .reader) (a .call) (c .before .before .before .before .before .before .before .made .result) (c .before .before .before .before .before .before .before .before .before .text-length .ensures .1) (c .before .before .before .before .before .before .before .made .ensures) (c .before .before .before .before .before .number .ensures) (c .before .before .before .before .reply-line .ensures) (c .responded .ensures)
+    call-responds (a .text .now) (c .before .before .before .before .before .before .before .before .before .text-length .result) (a .n) (a .state) (a .reader) (a .call) (c .before .before .before .before .before .before .before .reply-to .result) (c .before .before .before .before .before .before .before .before .before .text-length .ensures .1) (c .before .before .before .before .before .before .before .reply-to .ensures) (c .before .before .before .before .before .number .ensures) (c .before .before .before .before .reply-line .ensures) (c .responded .ensures)
 
 pub call-line-spec : {M : Type 1} → statement M
 call-line-spec =
     tie.close
     (tie.spec
     text-length-requires
-    sub-made
-    part-made-start
-    part-made-end
-    made-requires
+    sub-reply-to
+    part-reply-to-start
+    part-reply-to-end
+    reply-to-requires
     number-requires
     reply-line-requires
     responded-requires
