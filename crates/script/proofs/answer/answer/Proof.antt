@@ -1,4 +1,4 @@
--- `script::answer::answer` meets its contract: proofs/Answering.antt has the loop's laws. Assumes nothing.
+-- `script::answer::answer` meets its contract: Records.antt has the loop's laws. Assumes nothing.
 use mathlib.Core.Path.{refl, _∙_, ap, sym}
 use Prim.Native.Nat.{_+_, _-_}
 use native.Mathlib.Omega.{arith}
@@ -6,7 +6,7 @@ use borrow.Author.Needs.{needs}
 use borrow.Author.Tests.{not-true, not-false}
 use lib.ListN.{length, getD, drop, length-drop}
 use Rattle.script.specs.Record.{kindOf, bodyLength}
-use Rattle.script.proofs.Answering.{Answering, answering-starts, answering-goes-on, due-room, due-whole, nothing-due, not-due, least-as}
+use Rattle.script.proofs.answer.Records.{Answering, answering-starts, answering-goes-on, due-room, due-whole, nothing-due, not-due, least-as}
 use Rattle.script.proofs.answer.answer.Statement.{statement}
 use Rattle.script.proofs.answer.answer.Tie as tie
 

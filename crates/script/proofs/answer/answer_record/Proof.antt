@@ -1,6 +1,6 @@
 -- `script::answer::answer_record` meets its contract. Assumes nothing.
 use Rattle.script.specs.Script.{responseAt}
-use Rattle.script.proofs.Answering.{asked-as}
+use Rattle.script.proofs.answer.Records.{asked-as}
 use borrow.Author.Needs.{needs}
 use Rattle.script.proofs.answer.answer_record.Statement.{statement}
 use Rattle.script.proofs.answer.answer_record.Tie as tie

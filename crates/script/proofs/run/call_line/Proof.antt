@@ -1,6 +1,6 @@
 -- `script::run::call_line` meets its contract. Assumes nothing.
 use native.Mathlib.Omega.{arith}
-use Rattle.script.proofs.Responses.{call-digit, call-responds}
+use Rattle.script.proofs.run.Responses.{call-digit, call-responds}
 use borrow.Author.Needs.{needs}
 use Rattle.script.proofs.run.call_line.Statement.{statement}
 use Rattle.script.proofs.run.call_line.Tie as tie

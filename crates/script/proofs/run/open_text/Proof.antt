@@ -3,7 +3,7 @@ use mathlib.Core.Path.{_≡_, refl, _∙_, ap, sym}
 use mathlib.Core.Option.{some, none}
 use Rattle.reader.specs.Open.{openOf, openOutcomeOf}
 use Rattle.script.specs.Run.{openText}
-use Rattle.script.proofs.Responses.{responds}
+use Rattle.script.proofs.run.Responses.{responds}
 use borrow.Author.Needs.{needs}
 use Rattle.script.proofs.run.open_text.Statement.{statement}
 use Rattle.script.proofs.run.open_text.Tie as tie

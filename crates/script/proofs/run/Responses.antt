@@ -1,4 +1,4 @@
--- Responses to one record, from what the code wrote and how far it says the run is. Assumes nothing.
+-- Responses to one record, from what the code wrote and how far it says the run is: for the functions that respond. Assumes nothing.
 use mathlib.Core.Path.{_≡_, refl, _∙_, ap, sym}
 use mathlib.Core.List.{List, [], _∷_, _++_}
 use Prim.Native.Nat.{ℕ, _+_, _-_, _≤_, _<_}
@@ -22,7 +22,7 @@ use Rattle.script.specs.declared.refusal.Refusal.the-variants as refusal
 use Rattle.script.specs.Line.{Wrote}
 use Rattle.script.specs.Reply.{callBy, callNumber, replyOf, replyLine}
 use Rattle.script.specs.Run.{Response, Responds, runIn, stops, addText, callResponse}
-use Rattle.script.proofs.Writing.{wrote-as, wrote-nothing}
+use Rattle.script.proofs.line.Writes.{wrote-as, wrote-nothing}
 
 pub responds : {response : Response} {buffer before after : List ℕ} {at end : ℕ} {answer : Response'} {stage : Stage}
     → answer ≡ record { stage = stage; end = end } → Wrote before at (response .line) after end → runIn buffer stage ≡ response .run

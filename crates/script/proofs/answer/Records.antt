@@ -1,5 +1,5 @@
--- The loop over the records of an input: what is written, and how far it is, whatever comes behind the part that has arrived.
--- Assumes nothing.
+-- The loop over the records of an input, whatever comes behind the part that has arrived: for `answer` and `answer_record`; what a stopped
+-- run prints: for the turns and the history. `answered-whole`: an input answered to its end. Assumes nothing.
 use mathlib.Core.Path.{_≡_, refl, _∙_, ap, sym}
 use mathlib.Core.Bool.{Bool, true, false, cond, not, _&&_, _||_}
 use mathlib.Core.List.{List, [], _∷_, _++_, append-assoc, append-nil}
@@ -20,8 +20,8 @@ use Rattle.script.specs.Record.{kindOf, bodyLength, wholeRecord, recordA
 use Rattle.script.specs.declared.answer.Progress.{Progress}
 use Rattle.script.specs.Run.{Run, gathering, stopped, runIn, isStopped, respond, Responds}
 use Rattle.script.specs.Script.{responseAt, outputFrom, outputOf, isDue, nextIsDue, GoesAsFar, Answers}
-use Rattle.script.proofs.Writing.{wrote-inside}
-use Rattle.script.proofs.Parts.{to-the-end, drop-all, turn}
+use Rattle.script.proofs.line.Writes.{wrote-inside}
+use Rattle.script.proofs.answer.Prefixes.{to-the-end, drop-all, turn}
 
 pub false-no : false ≡ true → ⊥
 false-no e = let no : _≡_ {A = ℕ} 0 1 = cc in omega arith

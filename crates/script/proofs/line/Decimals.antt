@@ -1,4 +1,5 @@
--- The fewest digits that hold a number, as `io::decimal` promises them, are those of the definition. Assumes nothing.
+-- The fewest digits that hold a number, as `io::decimal` promises them, are those of the definition: for `long_number`; a number of one
+-- digit: for `number` and the lines. Assumes nothing.
 use mathlib.Core.Path.{_≡_, refl, _∙_, ap, sym}
 use mathlib.Core.Bool.{Bool, true, false, cond}
 use mathlib.Core.List.{List, [], _∷_}

@@ -1,4 +1,5 @@
--- Input that is taken in piece by piece, and the bytes of a record that are kept for the next piece. Assumes nothing.
+-- Input that is taken in piece by piece, and the bytes of a record that are kept for the next piece: for the functions of a turn and of
+-- a read, and for the history. Assumes nothing.
 use mathlib.Core.Path.{_≡_, refl, _∙_, ap, sym}
 use mathlib.Core.Bool.{Bool, true, false, cond}
 use mathlib.Core.List.{List, [], _∷_, _++_, append-assoc}
@@ -29,7 +30,7 @@ use Rattle.script.specs.Record.{kindOf, bodyLength, longestBody}
 use Rattle.script.specs.Run.{Run, runIn, isStopped}
 use Rattle.script.specs.Script.{isDue, nextIsDue, GoesAsFar, Answers}
 use Rattle.script.specs.Stream.{nextOf, Leads, Turns, arrivalOf, Reads, RoomToRead, afterRead, afterNoRead, FollowsBy, Follows}
-use Rattle.script.proofs.Answering.{false-no, stopped-prints-nothing, is-stopped-run}
+use Rattle.script.proofs.answer.Records.{false-no, stopped-prints-nothing, is-stopped-run}
 
 -- A buffer whose bytes from a place on are moved to its start, one by one.
 pub record Keeping (before : List ℕ) (from end : ℕ) (held : List ℕ) (i : ℕ) : Type 0 where
