@@ -56,6 +56,9 @@ wholeRecord kind.ZeroSkip body = record'.Call (numberAt body 0 1) call.ZeroSkip
 wholeRecord kind.Block body = record'.Call (numberAt body 0 1) (call.Block (numberAt body 1 4))
 wholeRecord kind.Unknown body = record'.Unknown
 
--- The record that an input has behind a byte of kind. The kind is tested first, then the length.
+-- The record behind a kind, from all that follows of the input: the kind is tested first, then the length.
+abbrev pub recordBehind : Kind → List ℕ → Record
+recordBehind k rest = cond (ltb (length rest) (bodyLength k)) record'.CutShort (wholeRecord k rest)
+
 unfoldable pub recordAt : ℕ → List ℕ → Record
-recordAt n rest = cond (ltb (length rest) (bodyLength (kindOf n))) record'.CutShort (wholeRecord (kindOf n) rest)
+recordAt n rest = recordBehind (kindOf n) rest

@@ -1,7 +1,7 @@
--- The loop over the records of an input, whatever comes behind the part that has arrived: for `answer` and `answer_record`; what a stopped
--- run prints: for the turns and the history. `answered-whole`: an input answered to its end. Assumes nothing.
+-- The loop over the records of an input, whatever comes behind the part that has arrived: for `answer`; what a stopped run
+-- prints: for the turns and the history. `answered-whole`: an input answered to its end. Assumes nothing.
 use mathlib.Core.Path.{_≡_, refl, _∙_, ap, sym}
-use mathlib.Core.Bool.{Bool, true, false, cond, not, _&&_, _||_}
+use mathlib.Core.Bool.{Bool, true, false, not, _&&_, _||_}
 use mathlib.Core.List.{List, [], _∷_, _++_, append-assoc, append-nil}
 use Prim.Native.Nat.{ℕ, zero, suc, _+_, _-_, _≤_, _<_, min}
 use native.Mathlib.Omega.{arith}
@@ -12,11 +12,10 @@ use lib.ListN.{length, take, drop, getD, length-drop}
 use lib.Seq.{drop-length, drop-cons}
 use Rattle.script.specs.declared.record.Kind.{Kind}
 use Rattle.script.specs.declared.record.Record.{Record}
-use Rattle.script.specs.declared.record.Record.the-variants as record'
 use Rattle.script.specs.declared.run.Stage.{Stage}
 use Rattle.script.specs.declared.run.Stage.the-variants as stage
 use Rattle.script.specs.declared.run.Response.{Response as Response'}
-use Rattle.script.specs.Record.{kindOf, bodyLength, wholeRecord, recordAt}
+use Rattle.script.specs.Record.{kindOf, bodyLength, recordBehind, recordAt}
 use Rattle.script.specs.declared.answer.Progress.{Progress}
 use Rattle.script.specs.Run.{Run, gathering, stopped, runIn, isStopped, respond, Responds}
 use Rattle.script.specs.Script.{responseAt, outputFrom, outputOf, isDue, nextIsDue, GoesAsFar, Answers}
@@ -106,11 +105,12 @@ not-due input used stage room ended size there is inside report left e f =
     let here : isDue stage room ended (bodyLength (kindOf (getD input used 0))) (length (drop (used + 1) input)) ≡ false = rw (e, f, to-the-end input (used + 1)) at (sym report ∙ left) in
     rw (drop-cons input used 0 inside) (rw (add-one used) at here)
 
--- the record that the code asks for is the definition's
-pub asked-as : (rest : List ℕ) (n : ℕ) (k : Kind) (asked : Record) → k ≡ kindOf n
-    → asked ≡ cond (ltb (length rest) (bodyLength k)) record'.CutShort (wholeRecord k rest) → asked ≡ recordAt n rest
-unfolding recordAt
-asked-as rest n k asked kind report = rw kind at report
+-- the response to the record that the code asks for is the definition's
+pub responds-at : (run : Run) {text before after : List ℕ} {at : ℕ} {answer : Response'} (rest : List ℕ) (n : ℕ) (k : Kind) (asked : Record)
+    → k ≡ kindOf n → asked ≡ recordBehind k rest → Responds (respond run asked) text before at after answer
+    → Responds (responseAt run n rest) text before at after answer
+unfolding responseAt recordAt
+responds-at run rest n k asked kind report r = let same : asked ≡ recordBehind (kindOf n) rest = rw kind at report in rw same at r
 
 -- how many bytes of its body are there
 pub least-as : (input : List ℕ) (from least size size' : ℕ) → size ≡ size'
