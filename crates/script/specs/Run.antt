@@ -23,7 +23,7 @@ use Rattle.script.specs.declared.run.Stage.the-variants as stage
 use Rattle.script.specs.Decimal.{decimal}
 use Rattle.script.specs.declared.run.Response.{Response as Response'}
 use Rattle.script.specs.Line.{lineOf, Wrote}
-use Rattle.script.specs.Reply.{callBy, callNumber, replyOf, replyLine}
+use Rattle.script.specs.Reply.{callBy, replyOf, replyLine}
 
 -- A run gathers text until an open is accepted; from then on calls go over the text; a refusal of 19 to 22 stops it.
 pub data Run : Type 0 where
@@ -78,7 +78,7 @@ openText text lo hi = record { line = lineOf (decimal 1) (decimal (openOf lo hi 
 
 -- a call prints its line, and the text stays
 abbrev pub answerCall : List ℕ → Call → Reply → Response
-answerCall text call reply = record { line = replyLine (callNumber call) reply; run = opened text (reply .state) }
+answerCall text call reply = record { line = replyLine call reply; run = opened text (reply .state) }
 
 unfoldable pub callResponse : List ℕ → State → Reader → Call → Response
 callResponse text st r call = answerCall text call (replyOf (answerTo readingOn text st (callBy call r)))

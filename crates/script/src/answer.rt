@@ -1,6 +1,5 @@
 // Record after record of an input that arrives in parts.
 ghost use mathlib.Core.Path.{_≡_};
-ghost use Prim.Native.Nat.{min};
 ghost use lib.ListN.{length};
 ghost use Rattle.script.specs.Record.{bodyLength, recordBehind};
 ghost use Rattle.script.specs.Run.{mostText, isStopped};
@@ -12,6 +11,7 @@ use crate::record::body_length;
 use crate::record::kind_of;
 use crate::record::whole_record;
 use crate::run::Stage;
+use crate::run::least;
 use crate::run::respond;
 
 // How far a part of the input is answered: how far the run is, how many bytes of the part were read and how many of the buffer written.
@@ -30,12 +30,6 @@ fn record_behind(kind: Kind, size: usize, body: &[u8]) -> Record
         return Record::CutShort;
     }
     whole_record(kind, body)
-}
-
-fn least(a: usize, b: usize) -> usize
-    ensures { λ r. ⌜ r ≡ min a b ⌝ }
-{
-    if a < b { a } else { b }
 }
 
 pub fn is_stopped(stage: Stage) -> bool

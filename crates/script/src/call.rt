@@ -1,9 +1,11 @@
 // A call of a reader, and what its line shows of the answer.
 ghost use mathlib.Core.Path.{_≡_};
+ghost use mathlib.Core.List.{[], _∷_};
 ghost use Rattle.reader.specs.Answer.{seenNumber, seenByte, readNumber, readByte, skipNumber, skipZeros, blockNumber, blockBytes};
 ghost use Rattle.reader.specs.Answer.{outcomeOf, readOutcomeOf, skipOutcomeOf, blockOutcomeOf};
 ghost use Rattle.reader.specs.Reading.{readingOn};
 ghost use Rattle.reader.specs.History.{answerTo};
+ghost use Rattle.script.specs.Decimal.{decimal};
 ghost use Rattle.script.specs.Reply.{callBy, callNumber, orRefused, numberShown, blockShown, outcomeReply, skipReply, blockReply, replyOf};
 use crate::record::Call;
 use reader::iterator::Read;
@@ -137,15 +139,15 @@ pub fn reply_to(text: &[u8], state: State, who: Reader, call: Call) -> Reply
     }
 }
 
-// The kind by which the script knows the call.
-pub fn number(call: Call) -> u8
-    ensures { λ r. ⌜ r ≡ callNumber call ⌝ }
+// The digit of the call's kind, which begins its line.
+pub fn kind_digit(call: Call) -> u8
+    ensures { λ r. ⌜ decimal (callNumber call) ≡ r ∷ [] ⌝ }
 {
     match call {
-        Call::Peek => 2,
-        Call::Take => 3,
-        Call::Read(value) => 4,
-        Call::ZeroSkip => 5,
-        Call::Block(n) => 6,
+        Call::Peek => b'2',
+        Call::Take => b'3',
+        Call::Read(value) => b'4',
+        Call::ZeroSkip => b'5',
+        Call::Block(n) => b'6',
     }
 }

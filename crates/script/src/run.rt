@@ -1,12 +1,11 @@
 // A run of a call script: what it answers to one record.
 ghost use mathlib.Core.Path.{_≡_};
 ghost use mathlib.Core.List.{List};
-ghost use Prim.Native.Nat.{ℕ, _+_, _≤_};
+ghost use Prim.Native.Nat.{ℕ, _+_, _≤_, min};
 ghost use lib.ListN.{length, take};
 ghost use Rattle.script.specs.Line.{longestLine};
 ghost use Rattle.script.specs.Run.{mostText, runIn, stops, addText, openText, gatheringCall, callResponse, openedCall, gatheringResponse, openedResponse, respond as respond·, Responds};
 ghost use Rattle.reader.specs.State.{readerNamed};
-use crate::call::number;
 use crate::call::reply_to;
 use crate::line::open_line;
 use crate::line::refusal_line;
@@ -37,6 +36,12 @@ pub enum Stage {
 pub struct Response {
     pub stage: Stage,
     pub end: usize,
+}
+
+pub fn least(a: usize, b: usize) -> usize
+    ensures { λ r. ⌜ r ≡ min a b ⌝ }
+{
+    if a < b { a } else { b }
 }
 
 fn responded(stage: Stage, end: usize) -> Response
@@ -114,15 +119,7 @@ fn gathering_response(
     }
 }
 
-// How many bytes of text there are; a number past the buffer's end stands for all of it.
-fn text_length(text: &[u8], n: usize) -> usize
-    ensures within { λ r. ⌜ r ≤ length (now (text .entry)) ⌝ }
-    ensures same { λ r. ⌜ take r (now (text .entry)) ≡ take n (now (text .entry)) ⌝ }
-{
-    if n < text.len() { n } else { text.len() }
-}
-
-// A call of a reader: its line, and the state that it returns.
+// A call of a reader: its line, and the state that it returns. A number of bytes past the buffer's end stands for all of it.
 fn call_line(
     text: &[u8],
     n: usize,
@@ -135,9 +132,9 @@ fn call_line(
     requires { ⌜ at + longestLine ≤ length (now out) ⌝ }
     ensures { λ r. ⌜ Responds (callResponse (take n (now (text .entry))) state reader call) (now (text .entry)) (now (out .entry)) at (now (out .exit)) r ⌝ }
 {
-    let size = text_length(text, n);
+    let size = least(n, text.len());
     let reply = reply_to(&text[0..size], state, reader, call);
-    let end = reply_line(out, at, number(call), reply);
+    let end = reply_line(out, at, call, reply);
     let next = reply.state;
     responded(Stage::Opened(n, next), end)
 }
