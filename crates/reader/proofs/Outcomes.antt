@@ -21,6 +21,9 @@ use Rattle.reader.specs.declared.skip.Block.the-variants as block
 use Rattle.reader.specs.declared.skip.BlockAnswer.{BlockAnswer}
 use Rattle.reader.specs.declared.skip.Count.{Count}
 use Rattle.reader.specs.declared.skip.Count.the-variants as count
+use Rattle.reader.specs.declared.state.State.{State}
+use Rattle.reader.specs.declared.open.Opened.{Opened}
+use Rattle.reader.specs.declared.open.Opened.the-variants as opened
 use Rattle.reader.specs.declared.column.Column.{Column}
 use Rattle.reader.specs.declared.column.Column.the-variants as column
 use Rattle.reader.specs.declared.noskip.Seen.{Seen as PlainSeen}
@@ -28,6 +31,7 @@ use Rattle.reader.specs.declared.noskip.Seen.the-variants as plain
 use Rattle.reader.specs.declared.noskip.Answer.{Answer as PlainAnswer}
 use Rattle.reader.specs.Plain.{PlainOutcome, plainNumber, plainByte, plainOutcomeOf}
 use Rattle.reader.specs.Column.{ColumnOutcome, columnOutcomeOf}
+use Rattle.reader.specs.Open.{OpenOutcome, openOutcomeOf}
 use Rattle.reader.specs.Answer.{CountOutcome, countOutcomeOf}
 use Rattle.reader.specs.Answer.{numberOf, Outcome, seenNumber, seenByte, outcomeOf, peekOutcomeOf, readNumber, readByte, readOutcomeOf, SkipOutcome, skipNumber, skipZeros, skipOutcomeOf, BlockOutcome, blockNumber, blockBytes, blockOutcomeOf}
 use Rattle.reader.proofs.state.Refusals.{refusal-tells}
@@ -163,3 +167,15 @@ plain-outcome-tells =
     tells plainOutcomeOf
     (λ (o : PlainOutcome). record { seen = plainFrom (o .refusal) (o .byte); taken = o .taken; passed = o .passed; cursor = record { cursor = o .cursor } })
     (λ a. ap (λ (x : PlainSeen). record { seen = x; taken = a .taken; passed = a .passed; cursor = a .cursor }) (plain-back (a .seen)))
+
+-- that of opening a cell: with no state, its number is the check's
+abbrev openedFrom : ℕ → Option State → Opened
+openedFrom n (some st) = opened.Fresh st
+openedFrom n none = opened.Refused n
+
+opened-back : (x : Opened) → openedFrom (openOutcomeOf x .refusal) (openOutcomeOf x .state) ≡ x
+opened-back (opened.Fresh st) = refl
+opened-back (opened.Refused n) = refl
+
+pub open-outcome-tells : (a b : Opened) → openOutcomeOf a ≡ openOutcomeOf b → a ≡ b
+open-outcome-tells = tells openOutcomeOf (λ (o : OpenOutcome). openedFrom (o .refusal) (o .state)) opened-back

@@ -4,6 +4,7 @@ pub mod Place
 pub mod Reading
 pub mod State
 pub mod Answer
+pub mod Open
 pub mod Repeat
 pub mod Calls
 pub mod ZeroSkip

@@ -4,6 +4,7 @@ pub mod bytes;
 pub mod column;
 pub mod iterator;
 pub mod noskip;
+pub mod open;
 pub mod pairs;
 pub mod passing;
 pub mod rule;

@@ -2,19 +2,12 @@
 use mathlib.Core.Path.{_≡_, refl}
 use mathlib.Core.List.{List, [], _∷_}
 use Prim.Native.Nat.{ℕ}
-use Rattle.word.specs.Bits.{bit}
-use Rattle.word.specs.Word.{word, field, flag, radixAt}
-use Rattle.word.specs.Digit.{digitValue, isDigit}
-use Rattle.word.specs.Check.{validControlIn, validControl, validPunctuation, validExponentFlags, consecutiveAlone, radixLines, controlLines, flagLines, consecutiveLines, fullCheck}
-use Rattle.reader.specs.Rule.{ruleOf}
-use Rattle.reader.specs.Place.{isSeparator}
-use Rattle.reader.specs.Reading.{flagsOf, syntaxOf, syntaxOn, readingWith, neighbourOf, mayPass, passedAt}
-use Rattle.reader.specs.State.{readerNamed, countOf, movedTo, countedBy}
-use Rattle.reader.specs.Calls.{refusalWith, peeked, peekOf, nextOf}
+use Rattle.reader.specs.State.{readerNamed}
+use Rattle.reader.proofs.open.Example.{opens, answers}
 use Rattle.script.specs.Decimal.{decimal}
 use Rattle.script.specs.Record.{kindOf, recordAt}
 use Rattle.script.specs.Reply.{outcomeReply, replyOf, replyLine}
-use Rattle.script.specs.Run.{callResponse}
+use Rattle.script.specs.Run.{openText, callResponse}
 use Rattle.script.specs.Script.{responseAt, outputOf}
 
 -- text `1_2`, the word with separator `_`, radix 10 and I, two takes and a peek
@@ -33,5 +26,5 @@ printed =
     ∷ 0x32 ∷ 32 ∷ 0x2D ∷ 32 ∷ 0x33 ∷ 32 ∷ 0x30 ∷ 32 ∷ 0x30 ∷ 10 ∷ []
 
 pub example-prints : outputOf example ≡ printed
-unfolding bit word field flag radixAt digitValue isDigit validControlIn validControl validPunctuation validExponentFlags consecutiveAlone radixLines controlLines flagLines consecutiveLines fullCheck ruleOf isSeparator flagsOf syntaxOf syntaxOn readingWith neighbourOf mayPass passedAt readerNamed countOf movedTo countedBy refusalWith peeked peekOf nextOf decimal kindOf recordAt outcomeReply replyOf replyLine callResponse responseAt outputOf
-example-prints = refl
+unfolding readerNamed decimal kindOf recordAt outcomeReply replyOf replyLine openText callResponse responseAt outputOf
+example-prints = rw (opens, answers .0, answers .1, answers .2)

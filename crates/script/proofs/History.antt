@@ -1,4 +1,5 @@
--- Turn after turn: what a whole run hands on, however its input is cut into pieces. Assumes nothing.
+-- Turn after turn: what a whole run hands on, however its input is cut into pieces (`over-prints`, `ended-prints`), and for `take_turns`
+-- what its loop keeps. Assumes nothing.
 use mathlib.Core.Path.{_≡_, refl, _∙_, ap, sym}
 use mathlib.Core.Bool.{Bool, true, false}
 use mathlib.Core.List.{List, [], _∷_, _++_, append-assoc, append-nil}
@@ -18,9 +19,9 @@ use Rattle.script.specs.declared.stream.Status.the-variants as status
 use Rattle.script.specs.Run.{Run, gathering, stopped, runIn}
 use Rattle.script.specs.Script.{outputFrom, outputOf}
 use Rattle.script.specs.Stream.{Prints, Leads, Turns, firstStart, Reads, afterRead, FollowsBy, Follows, pieceBehind, History, begins, goes-on, LastTurn, last, joined, Ran, RanTo}
-use Rattle.script.proofs.Parts.{drop-all}
-use Rattle.script.proofs.Answering.{false-no, stopped-prints-nothing}
-use Rattle.script.proofs.Streaming.{came-behind}
+use Rattle.script.proofs.answer.Prefixes.{drop-all}
+use Rattle.script.proofs.answer.Records.{false-no, stopped-prints-nothing}
+use Rattle.script.proofs.stream.Pieces.{came-behind}
 
 startOf : Status → Start
 startOf (status.Running start) = start

@@ -1,10 +1,4 @@
-pub mod Decimals
-pub mod Writing
-pub mod Bodies
-pub mod Showing
-pub mod Responses
-pub mod Parts
-pub mod Answering
-pub mod Streaming
-pub mod History
-pub mod Example
+-- Read in this order: Example (what the definitions say of document 01's example), record, line, call, run (one record and its line),
+-- answer (record after record), stream (one turn), History (a whole run).
+mod Example
+mod History

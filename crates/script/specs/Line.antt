@@ -1,5 +1,5 @@
 -- Lines of the output, and what it is to write bytes behind others. Assumes nothing.
-use Prim.Native.Nat.{ℕ, _+_}
+use Prim.Native.Nat.{ℕ, _+_, _*_}
 use mathlib.Core.Path.{_≡_}
 use mathlib.Core.List.{List, [], _∷_, _++_}
 use lib.ListN.{length, take}
@@ -12,9 +12,16 @@ behind (field ∷ rest) = 32 ∷ (field ++ behind rest)
 abbrev pub lineOf : List ℕ → List (List ℕ) → List ℕ
 lineOf field rest = field ++ behind rest
 
--- The most bytes of a line: a digit, four times a space and a number of up to 20 digits, and a newline.
+-- the most digits of a number of 64 bits, and with the space before it
+abbrev pub longestNumber : ℕ
+longestNumber = 20
+
+abbrev pub longestField : ℕ
+longestField = 1 + longestNumber
+
+-- The most bytes of a line: the digit of a kind, four fields, and a newline.
 abbrev pub longestLine : ℕ
-longestLine = 86
+longestLine = 1 + 4 * longestField + 1
 
 -- A buffer was `before`, of which `at` bytes were written; now it is `after`, and these bytes are written behind them, up to `end`.
 pub record Wrote (before : List ℕ) (at : ℕ) (bytes : List ℕ) (after : List ℕ) (end : ℕ) : Type 0 where

@@ -4,7 +4,6 @@ use mathlib.Core.Bool.{cond}
 use mathlib.Core.List.{List, [], _∷_}
 use lib.Dec.{eqb, ltb}
 use lib.ListN.{length, take, drop}
-use Rattle.word.specs.declared.format_flags.Format.{Format}
 use Rattle.script.specs.declared.record.Kind.{Kind}
 use Rattle.script.specs.declared.record.Kind.the-variants as kind
 use Rattle.script.specs.declared.record.Call.{Call}
@@ -46,13 +45,10 @@ littleEndian (b ∷ rest) = b + 256 * littleEndian rest
 abbrev pub numberAt : List ℕ → ℕ → ℕ → ℕ
 numberAt body place size = littleEndian (take size (drop place body))
 
-abbrev pub wordAt : List ℕ → Format
-wordAt body = record { lo = numberAt body 0 8; hi = numberAt body 8 8 }
-
 -- a record whose body is whole, from its kind and what follows it
 abbrev pub wholeRecord : Kind → List ℕ → Record
 wholeRecord kind.Text body = record'.Text (numberAt body 0 1)
-wholeRecord kind.Open body = record'.Open (wordAt body)
+wholeRecord kind.Open body = record'.Open (numberAt body 0 8) (numberAt body 8 8)
 wholeRecord kind.Peek body = record'.Call (numberAt body 0 1) call.Peek
 wholeRecord kind.Take body = record'.Call (numberAt body 0 1) call.Take
 wholeRecord kind.Read body = record'.Call (numberAt body 0 1) (call.Read (numberAt body 1 1))
@@ -60,6 +56,9 @@ wholeRecord kind.ZeroSkip body = record'.Call (numberAt body 0 1) call.ZeroSkip
 wholeRecord kind.Block body = record'.Call (numberAt body 0 1) (call.Block (numberAt body 1 4))
 wholeRecord kind.Unknown body = record'.Unknown
 
--- The record that an input has behind a byte of kind. The kind is tested first, then the length.
+-- The record behind a kind, from all that follows of the input: the kind is tested first, then the length.
+abbrev pub recordBehind : Kind → List ℕ → Record
+recordBehind k rest = cond (ltb (length rest) (bodyLength k)) record'.CutShort (wholeRecord k rest)
+
 unfoldable pub recordAt : ℕ → List ℕ → Record
-recordAt n rest = cond (ltb (length rest) (bodyLength (kindOf n))) record'.CutShort (wholeRecord (kindOf n) rest)
+recordAt n rest = recordBehind (kindOf n) rest

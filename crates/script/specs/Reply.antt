@@ -76,5 +76,5 @@ fieldsOf shown.Dash reply = fieldsWith (45 ∷ []) reply
 fieldsOf shown.NoBlock reply = (110 ∷ 111 ∷ 110 ∷ 101 ∷ []) ∷ []
 fieldsOf (shown.Refused number) reply = (33 ∷ decimal number) ∷ []
 
-unfoldable pub replyLine : ℕ → Reply → List ℕ
-replyLine kind reply = lineOf (decimal kind) (fieldsOf (reply .shown) reply)
+unfoldable pub replyLine : Call → Reply → List ℕ
+replyLine call reply = lineOf (decimal (callNumber call)) (fieldsOf (reply .shown) reply)

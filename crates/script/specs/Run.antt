@@ -6,11 +6,10 @@ use mathlib.Core.List.{List, [], _∷_, _++_}
 use mathlib.Core.Option.{Option, some, none}
 use lib.Dec.{eqb, ltb}
 use lib.ListN.{length, take}
-use Rattle.word.specs.declared.format_flags.Format.{Format}
-use Rattle.word.specs.Check.{fullCheck}
 use Rattle.reader.specs.declared.state.Reader.{Reader}
 use Rattle.reader.specs.declared.state.State.{State}
-use Rattle.reader.specs.State.{freshOf, readerNamed}
+use Rattle.reader.specs.State.{readerNamed}
+use Rattle.reader.specs.Open.{openOf}
 use Rattle.reader.specs.Reading.{readingOn}
 use Rattle.reader.specs.History.{answerTo}
 use Rattle.script.specs.declared.record.Call.{Call}
@@ -24,7 +23,7 @@ use Rattle.script.specs.declared.run.Stage.the-variants as stage
 use Rattle.script.specs.Decimal.{decimal}
 use Rattle.script.specs.declared.run.Response.{Response as Response'}
 use Rattle.script.specs.Line.{lineOf, Wrote}
-use Rattle.script.specs.Reply.{callBy, callNumber, replyOf, replyLine}
+use Rattle.script.specs.Reply.{callBy, replyOf, replyLine}
 
 -- A run gathers text until an open is accepted; from then on calls go over the text; a refusal of 19 to 22 stops it.
 pub data Run : Type 0 where
@@ -69,14 +68,17 @@ mostText = 4096
 abbrev pub addText : List ℕ → ℕ → Response
 addText text b = cond (ltb (length text) mostText) (silent (gathering (text ++ (b ∷ [])))) (stops refusal.TextFull)
 
--- "Open prints `1` and the answer." Only an answer of 0 is an accepted open.
-abbrev pub openText : List ℕ → Format → Response
-openText text f =
-    record { line = lineOf (decimal 1) (decimal (fullCheck f) ∷ []); run = cond (eqb (fullCheck f) 0) (opened text (freshOf f)) (gathering text) }
+-- "Open prints `1` and the answer." Only an open that gives a state is accepted.
+abbrev pub afterOpen : List ℕ → Option State → Run
+afterOpen text none = gathering text
+afterOpen text (some st) = opened text st
+
+unfoldable pub openText : List ℕ → ℕ → ℕ → Response
+openText text lo hi = record { line = lineOf (decimal 1) (decimal (openOf lo hi .refusal) ∷ []); run = afterOpen text (openOf lo hi .state) }
 
 -- a call prints its line, and the text stays
 abbrev pub answerCall : List ℕ → Call → Reply → Response
-answerCall text call reply = record { line = replyLine (callNumber call) reply; run = opened text (reply .state) }
+answerCall text call reply = record { line = replyLine call reply; run = opened text (reply .state) }
 
 unfoldable pub callResponse : List ℕ → State → Reader → Call → Response
 callResponse text st r call = answerCall text call (replyOf (answerTo readingOn text st (callBy call r)))
@@ -96,14 +98,14 @@ gatheringResponse text record'.Unknown = stops refusal.Unknown
 gatheringResponse text record'.CutShort = stops refusal.CutShort
 gatheringResponse text (record'.Call by call) = gatheringCall (readerNamed by)
 gatheringResponse text (record'.Text b) = addText text b
-gatheringResponse text (record'.Open f) = openText text f
+gatheringResponse text (record'.Open lo hi) = openText text lo hi
 
 abbrev pub openedResponse : List ℕ → State → Record → Response
 openedResponse text st record'.Unknown = stops refusal.Unknown
 openedResponse text st record'.CutShort = stops refusal.CutShort
 openedResponse text st (record'.Call by call) = openedCall text st call (readerNamed by)
 openedResponse text st (record'.Text b) = stops refusal.OutOfTurn
-openedResponse text st (record'.Open f) = stops refusal.OutOfTurn
+openedResponse text st (record'.Open lo hi) = stops refusal.OutOfTurn
 
 -- nothing answers what stands behind a stop
 abbrev pub respond : Run → Record → Response

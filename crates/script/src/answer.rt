@@ -1,22 +1,17 @@
 // Record after record of an input that arrives in parts.
 ghost use mathlib.Core.Path.{_≡_};
-ghost use mathlib.Core.Bool.{cond};
-ghost use Prim.Native.Nat.{_+_, _≤_, min};
-ghost use lib.Dec.{ltb};
 ghost use lib.ListN.{length};
-ghost use Rattle.script.specs.declared.record.Record.the-variants.{CutShort};
-ghost use Rattle.script.specs.Record.{bodyLength, wholeRecord};
-ghost use Rattle.script.specs.Line.{longestLine};
-ghost use Rattle.script.specs.Run.{mostText, runIn, isStopped, Responds};
-ghost use Rattle.script.specs.Script.{responseAt, isDue, GoesAsFar, Answers};
+ghost use Rattle.script.specs.Record.{bodyLength, recordBehind};
+ghost use Rattle.script.specs.Run.{mostText, isStopped};
+ghost use Rattle.script.specs.Script.{isDue, GoesAsFar, Answers};
 use crate::line::LONGEST;
 use crate::record::Kind;
 use crate::record::Record;
 use crate::record::body_length;
 use crate::record::kind_of;
 use crate::record::whole_record;
-use crate::run::Response;
 use crate::run::Stage;
+use crate::run::least;
 use crate::run::respond;
 
 // How far a part of the input is answered: how far the run is, how many bytes of the part were read and how many of the buffer written.
@@ -26,39 +21,15 @@ pub struct Progress {
     pub end: usize,
 }
 
-// The record behind a kind, from all that follows of the input.
-fn record_behind(kind: Kind, body: &[u8]) -> Record
-    ensures { λ r. ⌜ r ≡ cond (ltb (length (now (body .entry))) (bodyLength kind)) CutShort (wholeRecord kind (now (body .entry))) ⌝ }
+// The record behind a kind, whose body has `size` bytes, from all that follows of the input.
+fn record_behind(kind: Kind, size: usize, body: &[u8]) -> Record
+    requires { ⌜ size ≡ bodyLength kind ⌝ }
+    ensures { λ r. ⌜ r ≡ recordBehind kind (now (body .entry)) ⌝ }
 {
-    let size = body_length(kind);
     if body.len() < size {
         return Record::CutShort;
     }
     whole_record(kind, body)
-}
-
-// One record: from how far the run is, the text and the record's bytes, of which more may follow, to the next stage, the text and the
-// line's bytes behind those that are written.
-fn answer_record(
-    text: &mut [u8],
-    stage: Stage,
-    kind: u8,
-    rest: &[u8],
-    out: &mut [u8],
-    at: usize,
-) -> Response
-    requires { ⌜ (length (now text) ≡ mostText) × (at + longestLine ≤ length (now out)) ⌝ }
-    ensures kept { λ r. ⌜ length (now (text .exit)) ≡ mostText ⌝ }
-    ensures report { λ r. ⌜ Responds (responseAt (runIn (now (text .entry)) stage) kind (now (rest .entry))) (now (text .exit)) (now (out .entry)) at (now (out .exit)) r ⌝ }
-{
-    let asked = record_behind(kind_of(kind), rest);
-    respond(text, stage, asked, out, at)
-}
-
-fn least(a: usize, b: usize) -> usize
-    ensures { λ r. ⌜ r ≡ min a b ⌝ }
-{
-    if a < b { a } else { b }
 }
 
 pub fn is_stopped(stage: Stage) -> bool
@@ -105,14 +76,15 @@ pub(crate) fn answer(
     let mut used = 0;
     let mut end = 0;
     while used < input.len() {
-        let kind = input[used];
+        let kind = kind_of(input[used]);
         let body = &input[used + 1..];
-        let size = body_length(kind_of(kind));
+        let size = body_length(kind);
         let there = body.len();
         if !is_due(stage, out.len() - end, ended, size, there) {
             break;
         }
-        let response = answer_record(text, stage, kind, body, out, end);
+        let asked = record_behind(kind, size, body);
+        let response = respond(text, stage, asked, out, end);
         let next = response.stage;
         stage = next;
         end = response.end;

@@ -1,9 +1,11 @@
 // A call of a reader, and what its line shows of the answer.
 ghost use mathlib.Core.Path.{_≡_};
+ghost use mathlib.Core.List.{[], _∷_};
 ghost use Rattle.reader.specs.Answer.{seenNumber, seenByte, readNumber, readByte, skipNumber, skipZeros, blockNumber, blockBytes};
 ghost use Rattle.reader.specs.Answer.{outcomeOf, readOutcomeOf, skipOutcomeOf, blockOutcomeOf};
 ghost use Rattle.reader.specs.Reading.{readingOn};
 ghost use Rattle.reader.specs.History.{answerTo};
+ghost use Rattle.script.specs.Decimal.{decimal};
 ghost use Rattle.script.specs.Reply.{callBy, callNumber, orRefused, numberShown, blockShown, outcomeReply, skipReply, blockReply, replyOf};
 use crate::record::Call;
 use reader::iterator::Read;
@@ -125,11 +127,11 @@ fn block_reply(a: BlockAnswer) -> Reply
 }
 
 // Makes the call, as the word of the state says.
-pub fn made(text: &[u8], state: State, who: Reader, call: Call) -> Reply
+pub fn reply_to(text: &[u8], state: State, who: Reader, call: Call) -> Reply
     ensures { λ r. ⌜ r ≡ replyOf (answerTo readingOn (now (text .entry)) state (callBy call who)) ⌝ }
 {
     match call {
-        Call::Peek => seen_reply(peek(text, state, who)),
+        Call::Peek => seen_reply(peek(text, state, who).answer()),
         Call::Take => seen_reply(next(text, state, who)),
         Call::Read(value) => read_reply(read_if_value_cased(text, state, who, value)),
         Call::ZeroSkip => skip_reply(skip_zeros(text, state, who)),
@@ -137,15 +139,15 @@ pub fn made(text: &[u8], state: State, who: Reader, call: Call) -> Reply
     }
 }
 
-// The kind by which the script knows the call.
-pub fn number(call: Call) -> u8
-    ensures { λ r. ⌜ r ≡ callNumber call ⌝ }
+// The digit of the call's kind, which begins its line.
+pub fn kind_digit(call: Call) -> u8
+    ensures { λ r. ⌜ decimal (callNumber call) ≡ r ∷ [] ⌝ }
 {
     match call {
-        Call::Peek => 2,
-        Call::Take => 3,
-        Call::Read(value) => 4,
-        Call::ZeroSkip => 5,
-        Call::Block(n) => 6,
+        Call::Peek => b'2',
+        Call::Take => b'3',
+        Call::Read(value) => b'4',
+        Call::ZeroSkip => b'5',
+        Call::Block(n) => b'6',
     }
 }

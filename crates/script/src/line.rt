@@ -1,15 +1,17 @@
 // Lines of the output, written into a buffer behind those that are there.
 ghost use mathlib.Core.Path.{_≡_};
 ghost use mathlib.Core.List.{[], _∷_};
-ghost use Prim.Native.Nat.{_+_, _≤_, _<_};
+ghost use Prim.Native.Nat.{_+_, _*_, _≤_, _<_};
 ghost use lib.ListN.{length};
 ghost use Rattle.script.specs.Decimal.{decimal};
-ghost use Rattle.script.specs.Line.{behind, lineOf, longestLine, Wrote};
+ghost use Rattle.script.specs.Line.{behind, lineOf, longestNumber, longestField, longestLine, Wrote};
 ghost use Rattle.script.specs.Reply.{fieldsOf, replyLine};
 use crate::call::Reply;
 use crate::call::Shown;
+use crate::call::kind_digit;
+use crate::record::Call;
 
-// The most bytes of a line: a digit, four times a space and a number of 64 bits, and the line's end.
+// The most bytes of a line (`longestLine`).
 pub const LONGEST: usize = 86;
 
 fn put(out: &mut [u8], at: usize, b: u8) -> usize
@@ -34,9 +36,9 @@ pub(crate) fn put_all(out: &mut [u8], at: usize, bytes: &[u8]) -> usize
 }
 
 fn long_number(out: &mut [u8], at: usize, n: usize) -> usize
-    requires { ⌜ at + 20 ≤ length (now out) ⌝ }
+    requires { ⌜ at + longestNumber ≤ length (now out) ⌝ }
     ensures wrote { λ r. ⌜ Wrote (now (out .entry)) at (decimal n) (now (out .exit)) r ⌝ }
-    ensures short { λ r. ⌜ r ≤ at + 20 ⌝ }
+    ensures short { λ r. ⌜ r ≤ at + longestNumber ⌝ }
 {
     let mut digits = [0u8; 20];
     let k = io::decimal(n as u64, &mut digits);
@@ -45,9 +47,9 @@ fn long_number(out: &mut [u8], at: usize, n: usize) -> usize
 
 // Most numbers here have one digit, which needs no division.
 fn number(out: &mut [u8], at: usize, n: usize) -> usize
-    requires { ⌜ at + 20 ≤ length (now out) ⌝ }
+    requires { ⌜ at + longestNumber ≤ length (now out) ⌝ }
     ensures wrote { λ r. ⌜ Wrote (now (out .entry)) at (decimal n) (now (out .exit)) r ⌝ }
-    ensures short { λ r. ⌜ r ≤ at + 20 ⌝ }
+    ensures short { λ r. ⌜ r ≤ at + longestNumber ⌝ }
 {
     if n < 10 {
         return put(out, at, b'0' + n as u8);
@@ -57,9 +59,9 @@ fn number(out: &mut [u8], at: usize, n: usize) -> usize
 
 // A space and a number.
 fn field(out: &mut [u8], at: usize, n: usize) -> usize
-    requires { ⌜ at + 21 ≤ length (now out) ⌝ }
+    requires { ⌜ at + longestField ≤ length (now out) ⌝ }
     ensures wrote { λ r. ⌜ Wrote (now (out .entry)) at (32 ∷ decimal n) (now (out .exit)) r ⌝ }
-    ensures short { λ r. ⌜ r ≤ at + 21 ⌝ }
+    ensures short { λ r. ⌜ r ≤ at + longestField ⌝ }
 {
     let begun = put(out, at, b' ');
     number(out, begun, n)
@@ -67,7 +69,7 @@ fn field(out: &mut [u8], at: usize, n: usize) -> usize
 
 // The last fields of a call's line: cursor, taken and passed.
 fn last_fields(out: &mut [u8], at: usize, cursor: usize, taken: usize, passed: usize) -> usize
-    requires { ⌜ at + 64 ≤ length (now out) ⌝ }
+    requires { ⌜ at + (3 * longestField + 1) ≤ length (now out) ⌝ }
     ensures { λ r. ⌜ Wrote (now (out .entry)) at (behind (decimal cursor ∷ decimal taken ∷ decimal passed ∷ [])) (now (out .exit)) r ⌝ }
 {
     let first = field(out, at, cursor);
@@ -78,7 +80,7 @@ fn last_fields(out: &mut [u8], at: usize, cursor: usize, taken: usize, passed: u
 
 // A refusal's number behind its `!`.
 pub(crate) fn refusal_line(out: &mut [u8], at: usize, n: usize) -> usize
-    requires { ⌜ at + 22 ≤ length (now out) ⌝ }
+    requires { ⌜ at + (longestField + 1) ≤ length (now out) ⌝ }
     ensures { λ r. ⌜ Wrote (now (out .entry)) at (lineOf (33 ∷ decimal n) []) (now (out .exit)) r ⌝ }
 {
     let begun = put(out, at, b'!');
@@ -101,7 +103,7 @@ fn none_field(out: &mut [u8], at: usize) -> usize
 
 // The line of an open: `1` and the check's answer.
 pub(crate) fn open_line(out: &mut [u8], at: usize, answer: usize) -> usize
-    requires { ⌜ at + 23 ≤ length (now out) ⌝ }
+    requires { ⌜ at + longestLine ≤ length (now out) ⌝ }
     ensures { λ r. ⌜ Wrote (now (out .entry)) at (lineOf (decimal 1) (decimal answer ∷ [])) (now (out .exit)) r ⌝ }
 {
     let begun = put(out, at, b'1');
@@ -119,7 +121,7 @@ fn dash_field(out: &mut [u8], at: usize) -> usize
 
 // What stands behind the kind.
 fn reply_fields(out: &mut [u8], at: usize, reply: Reply) -> usize
-    requires { ⌜ at + 85 ≤ length (now out) ⌝ }
+    requires { ⌜ at + (4 * longestField + 1) ≤ length (now out) ⌝ }
     ensures { λ r. ⌜ Wrote (now (out .entry)) at (behind (fieldsOf (reply .shown) reply)) (now (out .exit)) r ⌝ }
 {
     let shown = reply.shown;
@@ -141,11 +143,11 @@ fn reply_fields(out: &mut [u8], at: usize, reply: Reply) -> usize
     }
 }
 
-// The line of a call, whose kind is one digit.
-pub(crate) fn reply_line(out: &mut [u8], at: usize, kind: u8, reply: Reply) -> usize
-    requires { ⌜ (kind < 10) × (at + longestLine ≤ length (now out)) ⌝ }
-    ensures { λ r. ⌜ Wrote (now (out .entry)) at (replyLine kind reply) (now (out .exit)) r ⌝ }
+// The line of a call.
+pub(crate) fn reply_line(out: &mut [u8], at: usize, call: Call, reply: Reply) -> usize
+    requires { ⌜ at + longestLine ≤ length (now out) ⌝ }
+    ensures { λ r. ⌜ Wrote (now (out .entry)) at (replyLine call reply) (now (out .exit)) r ⌝ }
 {
-    let begun = put(out, at, b'0' + kind);
+    let begun = put(out, at, kind_digit(call));
     reply_fields(out, begun, reply)
 }

@@ -2,8 +2,7 @@
 ghost use mathlib.Core.Path.{_≡_};
 ghost use Prim.Native.Nat.{_+_, _≤_, _<_, _^_, _*_};
 ghost use lib.ListN.{length};
-ghost use Rattle.script.specs.Record.{kindOf, bodyLength, numberAt, wordAt, wholeRecord};
-use word::format_flags::Format;
+ghost use Rattle.script.specs.Record.{kindOf, bodyLength, numberAt, wholeRecord};
 
 pub enum Kind {
     Text,
@@ -29,7 +28,8 @@ pub enum Record {
     Unknown,
     CutShort,
     Text(u8),
-    Open(Format),
+    // The word's halves.
+    Open(u64, u64),
     // The reader byte, which may name no reader, and the call.
     Call(u8, Call),
 }
@@ -89,16 +89,6 @@ fn number_at(body: &[u8], place: usize, size: usize) -> u64
     number
 }
 
-fn word_at(body: &[u8]) -> Format
-    requires { ⌜ 16 ≤ length (now body) ⌝ }
-    ensures { λ r. ⌜ r ≡ wordAt (now (body .entry)) ⌝ }
-{
-    Format {
-        lo: number_at(body, 0, 8),
-        hi: number_at(body, 8, 8),
-    }
-}
-
 fn count_at(body: &[u8]) -> u32
     requires { ⌜ 5 ≤ length (now body) ⌝ }
     ensures { λ r. ⌜ r ≡ numberAt (now (body .entry)) 1 4 ⌝ }
@@ -113,7 +103,7 @@ pub(crate) fn whole_record(kind: Kind, body: &[u8]) -> Record
 {
     match kind {
         Kind::Text => Record::Text(byte_at(body, 0)),
-        Kind::Open => Record::Open(word_at(body)),
+        Kind::Open => Record::Open(number_at(body, 0, 8), number_at(body, 8, 8)),
         Kind::Peek => Record::Call(byte_at(body, 0), Call::Peek),
         Kind::Take => Record::Call(byte_at(body, 0), Call::Take),
         Kind::Read => Record::Call(byte_at(body, 0), Call::Read(byte_at(body, 1))),

@@ -1,24 +1,24 @@
 // A run of a call script: what it answers to one record.
 ghost use mathlib.Core.Path.{_≡_};
 ghost use mathlib.Core.List.{List};
-ghost use Prim.Native.Nat.{ℕ, _+_, _≤_};
+ghost use Prim.Native.Nat.{ℕ, _+_, _≤_, min};
 ghost use lib.ListN.{length, take};
 ghost use Rattle.script.specs.Line.{longestLine};
 ghost use Rattle.script.specs.Run.{mostText, runIn, stops, addText, openText, gatheringCall, callResponse, openedCall, gatheringResponse, openedResponse, respond as respond·, Responds};
 ghost use Rattle.reader.specs.State.{readerNamed};
-use crate::call::made;
-use crate::call::number;
+use crate::call::reply_to;
 use crate::line::open_line;
 use crate::line::refusal_line;
 use crate::line::reply_line;
 use crate::record::Call;
 use crate::record::Record;
 use crate::refusal::Refusal;
+use reader::open::Opened;
+use reader::open::open;
 use reader::state::Named;
 use reader::state::Reader;
 use reader::state::State;
 use reader::state::reader_named;
-use word::format_flags::Format;
 
 // The most bytes of text.
 pub const MOST_TEXT: usize = 4096;
@@ -36,6 +36,12 @@ pub enum Stage {
 pub struct Response {
     pub stage: Stage,
     pub end: usize,
+}
+
+pub fn least(a: usize, b: usize) -> usize
+    ensures { λ r. ⌜ r ≡ min a b ⌝ }
+{
+    if a < b { a } else { b }
 }
 
 fn responded(stage: Stage, end: usize) -> Response
@@ -64,16 +70,21 @@ fn add_text(text: &mut [u8], n: usize, b: u8, out: &mut [u8], at: usize) -> Resp
     stop(Refusal::TextFull, out, at)
 }
 
-fn open_text(n: usize, format: Format, out: &mut [u8], at: usize) -> Response
+fn open_text(n: usize, lo: u64, hi: u64, out: &mut [u8], at: usize) -> Response
     requires { ⌜ at + longestLine ≤ length (now out) ⌝ }
-    ensures { λ r. ⌜ ((buffer : List ℕ) → Responds (openText (take n buffer) format) buffer (now (out .entry)) at (now (out .exit)) r) ⌝ }
+    ensures { λ r. ⌜ ((buffer : List ℕ) → Responds (openText (take n buffer) lo hi) buffer (now (out .entry)) at (now (out .exit)) r) ⌝ }
 {
-    let answer = format.error().number();
-    let end = open_line(out, at, answer as usize);
-    if answer == 0 {
-        return responded(Stage::Opened(n, State::fresh(format)), end);
+    let answer = open(lo, hi);
+    match answer {
+        Opened::Fresh(state) => {
+            let end = open_line(out, at, 0);
+            responded(Stage::Opened(n, state), end)
+        }
+        Opened::Refused(number) => {
+            let end = open_line(out, at, number as usize);
+            responded(Stage::Gathering(n), end)
+        }
     }
-    responded(Stage::Gathering(n), end)
 }
 
 // A call before an accepted open.
@@ -103,20 +114,12 @@ fn gathering_response(
         Record::Unknown => stop(Refusal::Unknown, out, at),
         Record::CutShort => stop(Refusal::CutShort, out, at),
         Record::Text(b) => add_text(text, n, b, out, at),
-        Record::Open(format) => open_text(n, format, out, at),
+        Record::Open(lo, hi) => open_text(n, lo, hi, out, at),
         Record::Call(by, call) => early_call(by, out, at),
     }
 }
 
-// How many bytes of text there are; a number past the buffer's end stands for all of it.
-fn text_length(text: &[u8], n: usize) -> usize
-    ensures within { λ r. ⌜ r ≤ length (now (text .entry)) ⌝ }
-    ensures same { λ r. ⌜ take r (now (text .entry)) ≡ take n (now (text .entry)) ⌝ }
-{
-    if n < text.len() { n } else { text.len() }
-}
-
-// A call of a reader: its line, and the state that it returns.
+// A call of a reader: its line, and the state that it returns. A number of bytes past the buffer's end stands for all of it.
 fn call_line(
     text: &[u8],
     n: usize,
@@ -129,9 +132,9 @@ fn call_line(
     requires { ⌜ at + longestLine ≤ length (now out) ⌝ }
     ensures { λ r. ⌜ Responds (callResponse (take n (now (text .entry))) state reader call) (now (text .entry)) (now (out .entry)) at (now (out .exit)) r ⌝ }
 {
-    let size = text_length(text, n);
-    let reply = made(&text[0..size], state, reader, call);
-    let end = reply_line(out, at, number(call), reply);
+    let size = least(n, text.len());
+    let reply = reply_to(&text[0..size], state, reader, call);
+    let end = reply_line(out, at, call, reply);
     let next = reply.state;
     responded(Stage::Opened(n, next), end)
 }
@@ -170,7 +173,7 @@ fn opened_response(
         Record::Unknown => stop(Refusal::Unknown, out, at),
         Record::CutShort => stop(Refusal::CutShort, out, at),
         Record::Text(b) => stop(Refusal::OutOfTurn, out, at),
-        Record::Open(format) => stop(Refusal::OutOfTurn, out, at),
+        Record::Open(lo, hi) => stop(Refusal::OutOfTurn, out, at),
         Record::Call(by, call) => opened_call(text, n, state, by, call, out, at),
     }
 }

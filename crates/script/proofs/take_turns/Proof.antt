@@ -8,7 +8,7 @@ use lib.ListN.{length}
 use Rattle.script.specs.Run.{mostText}
 use Rattle.script.specs.Stream.{Ran, mostTurns}
 use Rattle.script.proofs.History.{ran-starts, ran-within, ran-goes-on, ran-over, ran-unread, ran-unwritten, ran-as}
-use Rattle.script.proofs.Streaming.{room-to-read}
+use Rattle.script.proofs.stream.Pieces.{room-to-read}
 use Rattle.script.proofs.take_turns.Statement.{statement}
 use Rattle.script.proofs.take_turns.Tie as tie
 

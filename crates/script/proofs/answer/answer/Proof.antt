@@ -1,4 +1,4 @@
--- `script::answer::answer` meets its contract: proofs/Answering.antt has the loop's laws. Assumes nothing.
+-- `script::answer::answer` meets its contract: Records.antt has the loop's laws. Assumes nothing.
 use mathlib.Core.Path.{refl, _∙_, ap, sym}
 use Prim.Native.Nat.{_+_, _-_}
 use native.Mathlib.Omega.{arith}
@@ -6,7 +6,8 @@ use borrow.Author.Needs.{needs}
 use borrow.Author.Tests.{not-true, not-false}
 use lib.ListN.{length, getD, drop, length-drop}
 use Rattle.script.specs.Record.{kindOf, bodyLength}
-use Rattle.script.proofs.Answering.{Answering, answering-starts, answering-goes-on, due-room, due-whole, nothing-due, not-due, least-as}
+use Rattle.script.specs.Run.{runIn}
+use Rattle.script.proofs.answer.Records.{Answering, answering-starts, answering-goes-on, due-room, due-whole, nothing-due, not-due, responds-at, least-as}
 use Rattle.script.proofs.answer.answer.Statement.{statement}
 use Rattle.script.proofs.answer.answer.Tie as tie
 
@@ -23,8 +24,8 @@ loop-holds c =
     let a = d .args in
     answering-starts (a .text .now) (a .begun) (a .input .now) (a .ended) (a .out .now) (d .pre)
 
-shared-slice-read-kind : tie.Need-shared-slice-read-kind Inv-loop μ-loop
-shared-slice-read-kind c = omega arith
+shared-slice-read-kind-of : tie.Need-shared-slice-read-kind-of Inv-loop μ-loop
+shared-slice-read-kind-of c = omega arith
 
 add-body : tie.Need-add-body Inv-loop μ-loop
 add-body c = omega arith
@@ -50,11 +51,14 @@ sub-is-due c = omega (arith, c .before .before .before .before .before .loop .in
 is-due-requires : tie.Need-is-due-requires Inv-loop μ-loop
 is-due-requires c κs = search needs
 
-answer-record-requires : tie.Need-answer-record-requires Inv-loop μ-loop
-answer-record-requires c κs =
-    let l = c .before .before .before .before .before .before .before .before .before .loop in
-    let due = c .before .before .before .is-due in
-    (l .inv .kept, omega (arith, due-room _ _ _ _ _ (due .result) (due .ensures) (not-false (due .result) (c .before .before .if1 .left)), l .inv .answers .written))
+record-behind-requires : tie.Need-record-behind-requires Inv-loop μ-loop
+record-behind-requires c κs = c .before .before .body-length .ensures
+
+respond-requires : tie.Need-respond-requires Inv-loop μ-loop
+respond-requires c κs =
+    let l = c .before .before .before .before .before .before .before .before .before .before .loop in
+    let due = c .before .before .before .before .is-due in
+    (l .inv .kept, omega (arith, due-room _ _ _ _ _ (due .result) (due .ensures) (not-false (due .result) (c .before .before .before .if1 .left)), l .inv .answers .written))
 
 add-used : tie.Need-add-used Inv-loop μ-loop
 add-used c = omega arith
@@ -63,24 +67,27 @@ least-requires : tie.Need-least-requires Inv-loop μ-loop
 least-requires c κs = search needs
 
 add-used-2 : tie.Need-add-used-2 Inv-loop μ-loop
-add-used-2 c = omega (arith, c .least .ensures, c .before .before .before .before .before .before .before .before .before .before .before .before .before .before .loop-test .taken)
+add-used-2 c = omega (arith, c .least .ensures, c .before .before .before .before .before .before .before .before .before .before .before .before .before .before .before .loop-test .taken)
 
 loop-less : tie.Need-loop-less Inv-loop μ-loop
-loop-less c = omega (arith, c .least .ensures, c .before .before .before .before .before .before .before .before .before .before .before .before .before .before .loop-test .taken)
+loop-less c = omega (arith, c .least .ensures, c .before .before .before .before .before .before .before .before .before .before .before .before .before .before .before .loop-test .taken)
 
 loop-again : tie.Need-loop-again Inv-loop μ-loop
 loop-again c =
-    let a = c .before .before .before .before .before .before .before .before .before .before .before .before .before .before .before .before .before .before .before .args in
-    let l = c .before .before .before .before .before .before .before .before .before .before .before .before .before .before .before .loop in
+    let a = c .before .before .before .before .before .before .before .before .before .before .before .before .before .before .before .before .before .before .before .before .args in
+    let l = c .before .before .before .before .before .before .before .before .before .before .before .before .before .before .before .before .loop in
     let n = getD (a .input .now) (l .used) 0 in
-    let body = c .before .before .before .before .before .before .before .before .before .before .body-length in
-    let size = body .ensures ∙ ap bodyLength (c .before .before .before .before .before .before .before .before .before .before .before .kind-of .ensures) in
-    let due = c .before .before .before .before .before .before .before .before .before .is-due in
-    answering-goes-on (a .text .now) (a .begun) (a .input .now) (a .ended) (a .out .now) (l .text) (l .out) (l .stage) (l .used) (l .end) (l .inv) (c .before .before .before .before .before .before .before .before .before .before .before .before .before .before .loop-test .taken)
-    (λ more. omega (arith, due-whole _ _ _ _ _ (due .result) (due .ensures) (not-false (due .result) (c .before .before .before .before .before .before .before .before .if1 .left)) more, size, length-drop (l .used + 1) (a .input .now)))
+    let kind = c .before .before .before .before .before .before .before .before .before .before .before .before .before .kind-of in
+    let body = c .before .before .before .before .before .before .before .before .before .before .before .body-length in
+    let size = body .ensures ∙ ap bodyLength (kind .ensures) in
+    let due = c .before .before .before .before .before .before .before .before .before .before .is-due in
+    let asked = c .before .before .before .before .before .before .before .before .record-behind in
+    let answer = c .before .before .before .before .before .respond .ensures in
+    answering-goes-on (a .text .now) (a .begun) (a .input .now) (a .ended) (a .out .now) (l .text) (l .out) (l .stage) (l .used) (l .end) (l .inv) (c .before .before .before .before .before .before .before .before .before .before .before .before .before .before .before .loop-test .taken)
+    (λ more. omega (arith, due-whole _ _ _ _ _ (due .result) (due .ensures) (not-false (due .result) (c .before .before .before .before .before .before .before .before .before .if1 .left)) more, size, length-drop (l .used + 1) (a .input .now)))
     (least-as (a .input .now) (l .used + 1) (c .least .result) (body .result) (bodyLength (kindOf n)) size (c .least .ensures))
-    (c .before .before .before .before .before .answer-record .ensures .0)
-    (c .before .before .before .before .before .answer-record .ensures .1)
+    (answer .0)
+    (responds-at (runIn (l .text) (l .stage)) _ n (kind .result) (asked .result) (kind .ensures) (asked .ensures) (answer .1))
 
 same-length : tie.Need-same-length Inv-loop μ-loop
 same-length c = c .before .loop .inv .kept ∙ sym (c .before .before .before .before .before .pre)
@@ -103,7 +110,7 @@ returns-2 : tie.Need-returns-2 Inv-loop μ-loop
 returns-2 c =
     let l = c .before .before .before .before .before .before .before .loop in
     let i = l .inv in
-    let size = c .before .before .body-length .ensures ∙ ap bodyLength (c .before .before .before .kind-of .ensures) in (
+    let size = c .before .before .body-length .ensures ∙ ap bodyLength (c .before .before .before .before .kind-of .ensures) in (
       (i .kept, i .size),
       (
         not-due (c .before .before .before .before .before .before .before .before .before .before .before .args .input .now) (l .used) (l .stage) _ _ _ _ (c .before .is-due .result) (c .before .before .before .before .before .before .loop-test .taken) (c .before .is-due .ensures) (not-true (c .before .is-due .result) (c .if1 .taken)) size refl,
@@ -118,16 +125,17 @@ answer-spec =
     Inv-loop
     μ-loop
     loop-holds
-    shared-slice-read-kind
+    shared-slice-read-kind-of
+    kind-of-requires
     add-body
     sub-body
     part-body-start
     part-body-end
-    kind-of-requires
     body-length-requires
     sub-is-due
     is-due-requires
-    answer-record-requires
+    record-behind-requires
+    respond-requires
     add-used
     least-requires
     add-used-2

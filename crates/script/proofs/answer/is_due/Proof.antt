@@ -4,7 +4,7 @@ use mathlib.Core.Bool.{true, false}
 use native.Mathlib.Omega.{arith}
 use borrow.Author.Needs.{needs}
 use borrow.Author.Tests.{le-leb, lt-leb}
-use Rattle.script.specs.Run.{isStopped}
+use Rattle.script.specs.Line.{longestLine}
 use Rattle.script.specs.Script.{isDue}
 use Rattle.script.proofs.answer.is_due.Statement.{statement}
 use Rattle.script.proofs.answer.is_due.Tie as tie
@@ -18,15 +18,15 @@ returns c = rw (sym (c .before .is-stopped .ensures) ∙ c .if1 .taken)
 
 returns-2 : tie.Need-returns-2
 unfolding isDue
-returns-2 c = rw (sym (c .before .before .is-stopped .ensures) ∙ c .before .if1 .left, lt-leb 86 (c .before .before .before .args .room) (omega arith))
+returns-2 c = rw (sym (c .before .before .is-stopped .ensures) ∙ c .before .if1 .left, lt-leb longestLine (c .before .before .before .args .room) (omega arith))
 
 returns-3 : tie.Need-returns-3
 unfolding isDue
-returns-3 c = rw (sym (c .before .before .before .is-stopped .ensures) ∙ c .before .before .if1 .left, le-leb 86 (c .before .before .before .before .args .room) (omega arith), c .if3 .taken)
+returns-3 c = rw (sym (c .before .before .before .is-stopped .ensures) ∙ c .before .before .if1 .left, le-leb longestLine (c .before .before .before .before .args .room) (omega arith), c .if3 .taken)
 
 returns-4 : tie.Need-returns-4
 unfolding isDue
-returns-4 c = rw (sym (c .before .before .before .is-stopped .ensures) ∙ c .before .before .if1 .left, le-leb 86 (c .before .before .before .before .args .room) (omega arith), c .if3 .left)
+returns-4 c = rw (sym (c .before .before .before .is-stopped .ensures) ∙ c .before .before .if1 .left, le-leb longestLine (c .before .before .before .before .args .room) (omega arith), c .if3 .left)
 
 pub is-due-spec : {M : Type 1} → statement M
 is-due-spec = tie.close (tie.spec is-stopped-requires returns returns-2 returns-3 returns-4)

@@ -1,6 +1,6 @@
 -- `script::call::seen_shown` meets its contract. Assumes nothing.
 use Rattle.script.specs.declared.call.Shown.the-variants as shown
-use Rattle.script.proofs.Showing.{refused-shown}
+use Rattle.script.proofs.call.Refused.{refused-shown}
 use borrow.Author.Needs.{needs}
 use Rattle.script.proofs.call.seen_shown.Statement.{statement}
 use Rattle.script.proofs.call.seen_shown.Tie as tie

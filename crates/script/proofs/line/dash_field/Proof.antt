@@ -1,5 +1,5 @@
 -- `script::line::dash_field` meets its contract. Assumes nothing.
-use Rattle.script.proofs.Writing.{wrote-then}
+use Rattle.script.proofs.line.Writes.{wrote-then}
 use borrow.Author.Needs.{needs}
 use Rattle.script.proofs.line.dash_field.Statement.{statement}
 use Rattle.script.proofs.line.dash_field.Tie as tie

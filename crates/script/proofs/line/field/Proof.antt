@@ -1,6 +1,6 @@
 -- `script::line::field` meets its contract. Assumes nothing.
 use native.Mathlib.Omega.{arith}
-use Rattle.script.proofs.Writing.{wrote-then}
+use Rattle.script.proofs.line.Writes.{wrote-then}
 use borrow.Author.Needs.{needs}
 use Rattle.script.proofs.line.field.Statement.{statement}
 use Rattle.script.proofs.line.field.Tie as tie

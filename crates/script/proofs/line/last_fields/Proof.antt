@@ -1,7 +1,7 @@
 -- `script::line::last_fields` meets its contract. Assumes nothing.
 use mathlib.Core.Path.{refl}
 use mathlib.Core.List.{append-assoc}
-use Rattle.script.proofs.Writing.{wrote-then, wrote-as}
+use Rattle.script.proofs.line.Writes.{wrote-then, wrote-as}
 use borrow.Author.Needs.{needs}
 use Rattle.script.proofs.line.last_fields.Statement.{statement}
 use Rattle.script.proofs.line.last_fields.Tie as tie

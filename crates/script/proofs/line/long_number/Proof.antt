@@ -2,8 +2,8 @@
 use mathlib.Core.Path.{refl}
 use native.Mathlib.Omega.{arith}
 use lib.ListN.{length-take}
-use Rattle.script.proofs.Decimals.{few-enough, spelled}
-use Rattle.script.proofs.Writing.{wrote-as}
+use Rattle.script.proofs.line.Decimals.{few-enough, spelled}
+use Rattle.script.proofs.line.Writes.{wrote-as}
 use borrow.Author.Needs.{needs}
 use Rattle.script.proofs.line.long_number.Statement.{statement}
 use Rattle.script.proofs.line.long_number.Tie as tie

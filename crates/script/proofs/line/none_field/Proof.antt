@@ -1,5 +1,5 @@
 -- `script::line::none_field` meets its contract. Assumes nothing.
-use Rattle.script.proofs.Writing.{wrote-then}
+use Rattle.script.proofs.line.Writes.{wrote-then}
 use borrow.Author.Needs.{needs}
 use Rattle.script.proofs.line.none_field.Statement.{statement}
 use Rattle.script.proofs.line.none_field.Tie as tie

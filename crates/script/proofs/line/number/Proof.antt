@@ -1,8 +1,8 @@
 -- `script::line::number` meets its contract. Assumes nothing.
 use mathlib.Core.Path.{refl, sym}
 use native.Mathlib.Omega.{arith}
-use Rattle.script.proofs.Decimals.{digit-alone}
-use Rattle.script.proofs.Writing.{wrote-as}
+use Rattle.script.proofs.line.Decimals.{digit-alone}
+use Rattle.script.proofs.line.Writes.{wrote-as}
 use borrow.Author.Needs.{needs}
 use Rattle.script.proofs.line.number.Statement.{statement}
 use Rattle.script.proofs.line.number.Tie as tie

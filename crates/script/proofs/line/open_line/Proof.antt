@@ -1,8 +1,8 @@
 -- `script::line::open_line` meets its contract. Assumes nothing.
 use mathlib.Core.Path.{refl}
 use native.Mathlib.Omega.{arith}
-use Rattle.script.proofs.Decimals.{digit-alone}
-use Rattle.script.proofs.Writing.{wrote-then, wrote-as}
+use Rattle.script.proofs.line.Decimals.{digit-alone}
+use Rattle.script.proofs.line.Writes.{wrote-then, wrote-as}
 use borrow.Author.Needs.{needs}
 use Rattle.script.proofs.line.open_line.Statement.{statement}
 use Rattle.script.proofs.line.open_line.Tie as tie

@@ -1,5 +1,5 @@
 -- `script::line::put` meets its contract. Assumes nothing.
-use Rattle.script.proofs.Writing.{wrote-byte}
+use Rattle.script.proofs.line.Writes.{wrote-byte}
 use borrow.Author.Needs.{needs}
 use Rattle.script.proofs.line.put.Statement.{statement}
 use Rattle.script.proofs.line.put.Tie as tie

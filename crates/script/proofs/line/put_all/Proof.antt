@@ -1,8 +1,8 @@
--- `script::line::put_all` meets its contract: proofs/Writing.antt has the loop's laws. Assumes nothing.
+-- `script::line::put_all` meets its contract: Writes.antt has the loop's laws. Assumes nothing.
 use Prim.Native.Nat.{_-_}
 use native.Mathlib.Omega.{arith}
 use lib.ListN.{length}
-use Rattle.script.proofs.Writing.{Copying, copy-starts, copy-goes-on, copy-ends}
+use Rattle.script.proofs.line.Writes.{Copying, copy-starts, copy-goes-on, copy-ends}
 use Rattle.script.proofs.line.put_all.Statement.{statement}
 use Rattle.script.proofs.line.put_all.Tie as tie
 

@@ -1,5 +1,5 @@
 -- `script::line::refusal_line` meets its contract. Assumes nothing.
-use Rattle.script.proofs.Writing.{wrote-then}
+use Rattle.script.proofs.line.Writes.{wrote-then}
 use borrow.Author.Needs.{needs}
 use Rattle.script.proofs.line.refusal_line.Statement.{statement}
 use Rattle.script.proofs.line.refusal_line.Tie as tie

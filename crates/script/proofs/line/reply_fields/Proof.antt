@@ -1,7 +1,7 @@
 -- `script::line::reply_fields` meets its contract. Assumes nothing.
 use mathlib.Core.Path.{refl}
 use mathlib.Core.List.{append-assoc}
-use Rattle.script.proofs.Writing.{wrote-then, wrote-as}
+use Rattle.script.proofs.line.Writes.{wrote-then, wrote-as}
 use borrow.Author.Needs.{needs}
 use Rattle.script.proofs.line.reply_fields.Statement.{statement}
 use Rattle.script.proofs.line.reply_fields.Tie as tie

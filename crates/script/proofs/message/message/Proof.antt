@@ -1,7 +1,7 @@
 -- `script::message::message` meets its contract. Assumes nothing.
 use native.Mathlib.Omega.{arith}
 use borrow.Author.Needs.{needs}
-use Rattle.script.proofs.Writing.{wrote-nothing, wrote-inside}
+use Rattle.script.proofs.line.Writes.{wrote-nothing, wrote-inside}
 use Rattle.script.proofs.message.message.Statement.{statement}
 use Rattle.script.proofs.message.message.Tie as tie
 

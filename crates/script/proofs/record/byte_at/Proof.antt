@@ -1,5 +1,5 @@
 -- `script::record::byte_at` meets its contract. Assumes nothing.
-use Rattle.script.proofs.Bodies.{byte-number}
+use Rattle.script.proofs.record.Numbers.{byte-number}
 use borrow.Author.Needs.{needs}
 use Rattle.script.proofs.record.byte_at.Statement.{statement}
 use Rattle.script.proofs.record.byte_at.Tie as tie

@@ -1,7 +1,7 @@
--- `script::record::number_at` meets its contract: proofs/Bodies.antt has the loop's laws. Assumes nothing.
+-- `script::record::number_at` meets its contract: Numbers.antt has the loop's laws. Assumes nothing.
 use Prim.Native.Nat.{_+_, _-_}
 use native.Mathlib.Omega.{arith}
-use Rattle.script.proofs.Bodies.{Reading, reading-starts, reading-goes-on, reading-room, reading-ends}
+use Rattle.script.proofs.record.Numbers.{Reading, reading-starts, reading-goes-on, reading-room, reading-ends}
 use Rattle.script.proofs.record.number_at.Statement.{statement}
 use Rattle.script.proofs.record.number_at.Tie as tie
 

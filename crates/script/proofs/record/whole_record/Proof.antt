@@ -13,8 +13,11 @@ byte-at-requires c κs = omega (arith, rw (c .enum-told .given .1) at (c .before
 enum-told-2 : tie.Need-enum-told-2
 enum-told-2 c = search needs
 
-word-at-requires : tie.Need-word-at-requires
-word-at-requires c κs = rw (c .enum-told2 .given .1) at (c .before .before .before .pre)
+number-at-requires : tie.Need-number-at-requires
+number-at-requires c κs = let whole = rw (c .enum-told2 .given .1) at (c .before .before .before .pre) in (omega (arith, whole), omega arith)
+
+number-at-requires-2 : tie.Need-number-at-requires-2
+number-at-requires-2 c κs = let whole = rw (c .before .enum-told2 .given .1) at (c .before .before .before .before .pre) in (omega (arith, whole), omega arith)
 
 enum-told-3 : tie.Need-enum-told-3
 enum-told-3 c = search needs
@@ -59,7 +62,7 @@ returns : tie.Need-returns
 returns c = rw (c .before .enum-told .given .1, c .byte-at .ensures)
 
 returns-2 : tie.Need-returns-2
-returns-2 c = rw (c .before .enum-told2 .given .1, c .word-at .ensures)
+returns-2 c = rw (c .before .before .enum-told2 .given .1, c .before .number-at .ensures .0, c .number-at2 .ensures .0)
 
 returns-3 : tie.Need-returns-3
 returns-3 c = rw (c .before .enum-told3 .given .1, c .byte-at2 .ensures)
@@ -86,7 +89,8 @@ whole-record-spec =
     enum-told
     byte-at-requires
     enum-told-2
-    word-at-requires
+    number-at-requires
+    number-at-requires-2
     enum-told-3
     byte-at-requires-2
     enum-told-4

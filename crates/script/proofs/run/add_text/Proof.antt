@@ -1,7 +1,7 @@
 -- `script::run::add_text` meets its contract. Assumes nothing.
 use native.Mathlib.Omega.{arith}
 use lib.ListN.{length-set}
-use Rattle.script.proofs.Responses.{text-added, text-full}
+use Rattle.script.proofs.run.Responses.{text-added, text-full}
 use borrow.Author.Needs.{needs}
 use Rattle.script.proofs.run.add_text.Statement.{statement}
 use Rattle.script.proofs.run.add_text.Tie as tie

@@ -1,7 +1,7 @@
 -- `script::run::respond` meets its contract. Assumes nothing.
 use mathlib.Core.Path.{refl}
-use Rattle.script.proofs.Responses.{responds}
-use Rattle.script.proofs.Writing.{wrote-nothing}
+use Rattle.script.proofs.run.Responses.{responds}
+use Rattle.script.proofs.line.Writes.{wrote-nothing}
 use borrow.Author.Needs.{needs}
 use Rattle.script.proofs.run.respond.Statement.{statement}
 use Rattle.script.proofs.run.respond.Tie as tie

@@ -1,7 +1,7 @@
 -- `script::run::stop` meets its contract. Assumes nothing.
 use mathlib.Core.Path.{refl}
-use Rattle.script.proofs.Responses.{responds}
-use Rattle.script.proofs.Writing.{wrote-as}
+use Rattle.script.proofs.run.Responses.{responds}
+use Rattle.script.proofs.line.Writes.{wrote-as}
 use borrow.Author.Needs.{needs}
 use Rattle.script.proofs.run.stop.Statement.{statement}
 use Rattle.script.proofs.run.stop.Tie as tie

@@ -11,7 +11,7 @@ use lib.Signed.{ltZ}
 use mir.Facts.{toZ-ofZ}
 use Rattle.script.specs.declared.stream.Arrival.the-variants as arrival
 use Rattle.script.specs.Stream.{arrivalOf}
-use Rattle.script.proofs.Answering.{false-no}
+use Rattle.script.proofs.answer.Records.{false-no}
 use Rattle.script.proofs.stream.arrival_of.Statement.{statement}
 use Rattle.script.proofs.stream.arrival_of.Tie as tie
 

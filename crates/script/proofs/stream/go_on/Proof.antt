@@ -1,7 +1,7 @@
 -- `script::stream::go_on` meets its contract. Assumes nothing.
 use borrow.Author.Needs.{needs}
 use borrow.Author.Tests.{not-true, not-false}
-use Rattle.script.proofs.Streaming.{follows-failed, follows-over, follows-again, follows-read}
+use Rattle.script.proofs.stream.Pieces.{follows-failed, follows-over, follows-again, follows-read}
 use Rattle.script.proofs.stream.go_on.Statement.{statement}
 use Rattle.script.proofs.stream.go_on.Tie as tie
 

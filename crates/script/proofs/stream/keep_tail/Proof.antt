@@ -1,7 +1,7 @@
--- `script::stream::keep_tail` meets its contract: proofs/Streaming.antt has the loop's laws. Assumes nothing.
+-- `script::stream::keep_tail` meets its contract: Pieces.antt has the loop's laws. Assumes nothing.
 use Prim.Native.Nat.{_-_, _+_}
 use native.Mathlib.Omega.{arith}
-use Rattle.script.proofs.Streaming.{Keeping, keeping-starts, keeping-goes-on, keeping-ends}
+use Rattle.script.proofs.stream.Pieces.{Keeping, keeping-starts, keeping-goes-on, keeping-ends}
 use Rattle.script.proofs.stream.keep_tail.Statement.{statement}
 use Rattle.script.proofs.stream.keep_tail.Tie as tie
 

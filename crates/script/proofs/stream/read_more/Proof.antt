@@ -3,7 +3,7 @@ use mir.Syntax.{w64}
 use mir.Val.{toZ, ofZ}
 use native.Mathlib.Omega.{arith}
 use borrow.Author.Needs.{needs}
-use Rattle.script.proofs.Streaming.{reads-as}
+use Rattle.script.proofs.stream.Pieces.{reads-as}
 use Rattle.script.proofs.stream.read_more.Statement.{statement}
 use Rattle.script.proofs.stream.read_more.Tie as tie
 

@@ -1,6 +1,6 @@
 -- `script::stream::take_turn` meets its contract. Assumes nothing.
 use borrow.Author.Needs.{needs}
-use Rattle.script.proofs.Streaming.{turned}
+use Rattle.script.proofs.stream.Pieces.{turned}
 use Rattle.script.proofs.stream.take_turn.Statement.{statement}
 use Rattle.script.proofs.stream.take_turn.Tie as tie
 

@@ -1,4 +1,4 @@
--- Writing bytes behind others. Assumes nothing.
+-- Writing bytes behind others (`Wrote`), one after the other and in the loop of `put_all`: for every function that writes. Assumes nothing.
 use mathlib.Core.Path.{_≡_, refl, _∙_, ap, sym}
 use mathlib.Core.List.{List, [], _∷_, _++_, append-assoc, append-nil}
 use Prim.Native.Nat.{ℕ, zero, suc, _+_, _≤_, _<_}

@@ -1,4 +1,4 @@
--- Numbers in the bytes of a record, read from the highest byte down. Assumes nothing.
+-- The number in the bytes of a record's body, read from the highest byte down: for `number_at`, and one byte for `byte_at`. Assumes nothing.
 use mathlib.Core.Path.{_≡_, refl, _∙_, ap, sym}
 use mathlib.Core.List.{List}
 use Prim.Native.Nat.{ℕ, suc, _+_, _-_, _*_, _^_, _≤_, _<_}

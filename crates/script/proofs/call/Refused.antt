@@ -1,4 +1,4 @@
--- What a refused call shows. Assumes nothing.
+-- A refused call shows its number: for the four functions that show an answer. Assumes nothing.
 use mathlib.Core.Path.{_≡_, refl}
 use Rattle.reader.specs.declared.state.Refusal.{Refusal}
 use Rattle.reader.specs.declared.state.Refusal.the-variants.{CursorPastEnd, CountsExceedCursor, SpecialReader, ConsecutiveInteger, ConsecutiveFraction, ConsecutiveExponent}

@@ -1,9 +1,9 @@
--- `script::call::made` meets its contract. Assumes nothing.
+-- `script::call::reply_to` meets its contract. Assumes nothing.
 use mathlib.Core.Path.{_∙_, ap}
 use Rattle.script.specs.Reply.{outcomeReply, skipReply, blockReply, replyOf}
 use borrow.Author.Needs.{needs}
-use Rattle.script.proofs.call.made.Statement.{statement}
-use Rattle.script.proofs.call.made.Tie as tie
+use Rattle.script.proofs.call.reply_to.Statement.{statement}
+use Rattle.script.proofs.call.reply_to.Tie as tie
 
 enum-told : tie.Need-enum-told
 enum-told c = search needs
@@ -73,8 +73,8 @@ returns-5 : tie.Need-returns-5
 unfolding replyOf
 returns-5 c = c .block-reply .ensures ∙ ap blockReply (c .before .take-n .ensures) ∙ rw (c .before .before .before .call2 .given .1)
 
-pub made-spec : {M : Type 1} → statement M
-made-spec =
+pub reply-to-spec : {M : Type 1} → statement M
+reply-to-spec =
     tie.close
     (tie.spec
     enum-told

@@ -1,4 +1,5 @@
--- The fewest digits that hold a number, as `io::decimal` promises them, are those of the definition. Assumes nothing.
+-- The fewest digits that hold a number, as `io::decimal` promises them, are those of the definition: for `long_number`; a number of one
+-- digit: for `number` and the lines. Assumes nothing.
 use mathlib.Core.Path.{_≡_, refl, _∙_, ap, sym}
 use mathlib.Core.Bool.{Bool, true, false, cond}
 use mathlib.Core.List.{List, [], _∷_}
@@ -9,6 +10,7 @@ use borrow.Author.Tests.{ltb-true, ltb-false, lt-ltb}
 use lib.Dec.{ltb}
 use lib.ListN.{take}
 use Rattle.io.specs.Digits.{digits, Fewest}
+use Rattle.script.specs.Line.{longestNumber}
 use Rattle.script.specs.Decimal.{digitCount, decimal}
 
 power-positive : (k : ℕ) → 1 ≤ 10 ^ k
@@ -43,14 +45,14 @@ fewest-counts (suc most) n r few bound = go (ltb n 10) refl r few bound (fewest-
   go false e (suc zero) few bound rest = omega (arith, few .1, ltb-false n 10 e)
   go false e (suc (suc k)) few bound rest = ap suc (rest (suc k) (tenth n k few) (omega arith))
 
--- a number of 64 bits has at most 20 digits
-pub few-enough : (n r : ℕ) → n < 2 ^ 64 → Fewest 10 1 n r → r ≤ 20
-few-enough n r small few = go (ltb 20 r) refl where
-  go : (b : Bool) → ltb 20 r ≡ b → r ≤ 20
-  go false e = omega (arith, ltb-false 20 r e)
+-- a number of 64 bits has at most this many digits
+pub few-enough : (n r : ℕ) → n < 2 ^ 64 → Fewest 10 1 n r → r ≤ longestNumber
+few-enough n r small few = go (ltb longestNumber r) refl where
+  go : (b : Bool) → ltb longestNumber r ≡ b → r ≤ longestNumber
+  go false e = omega (arith, ltb-false longestNumber r e)
   go true e =
-      let more = ltb-true 20 r e in
-      let least : 10 ^ 20 ≤ 10 ^ (r - 1) = pow-le-pow-right (omega arith) {i = 20} {j = r - 1} (omega (arith, more)) in
+      let more = ltb-true longestNumber r e in
+      let least : 10 ^ longestNumber ≤ 10 ^ (r - 1) = pow-le-pow-right (omega arith) {i = longestNumber} {j = r - 1} (omega (arith, more)) in
       let most : 10 ^ (r - 1) ≤ n = few .2 (omega (arith, more)) in
       omega (arith, least, most, small)
 

@@ -1,4 +1,5 @@
--- Input that is taken in piece by piece, and the bytes of a record that are kept for the next piece. Assumes nothing.
+-- Input that is taken in piece by piece, and the bytes of a record that are kept for the next piece: for the functions of a turn and of
+-- a read, and for the history. Assumes nothing.
 use mathlib.Core.Path.{_≡_, refl, _∙_, ap, sym}
 use mathlib.Core.Bool.{Bool, true, false, cond}
 use mathlib.Core.List.{List, [], _∷_, _++_, append-assoc}
@@ -29,7 +30,7 @@ use Rattle.script.specs.Record.{kindOf, bodyLength, longestBody}
 use Rattle.script.specs.Run.{Run, runIn, isStopped}
 use Rattle.script.specs.Script.{isDue, nextIsDue, GoesAsFar, Answers}
 use Rattle.script.specs.Stream.{nextOf, Leads, Turns, arrivalOf, Reads, RoomToRead, afterRead, afterNoRead, FollowsBy, Follows}
-use Rattle.script.proofs.Answering.{false-no, stopped-prints-nothing, is-stopped-run}
+use Rattle.script.proofs.answer.Records.{false-no, stopped-prints-nothing, is-stopped-run}
 
 -- A buffer whose bytes from a place on are moved to its start, one by one.
 pub record Keeping (before : List ℕ) (from end : ℕ) (held : List ℕ) (i : ℕ) : Type 0 where
@@ -67,11 +68,11 @@ module _ (before : List ℕ) (from end : ℕ) (room : end ≤ length before) (i 
 
   pub keeping-ends : (held : List ℕ) → end ≤ from + i → Keeping before from end held i
       → ((i ≡ end - from) × (length held ≡ length before)) × (take i held ≡ take i (drop from before))
-  keeping-ends held all here =
-      ((omega (arith, all, here .within), here .size), ap (take i) (here .moved) ∙ take-at (take i (drop from before)) (drop i before) i (start-length (here .within)))
+  keeping-ends held past here =
+      ((omega (arith, past, here .within), here .size), ap (take i) (here .moved) ∙ take-at (take i (drop from before)) (drop i before) i (start-length (here .within)))
 
 drop-of-take : (l : List ℕ) (used filled : ℕ) → drop used (take filled l) ≡ take (filled - used) (drop used l)
-drop-of-take l zero filled = let all : filled - 0 ≡ filled = omega arith in rw all
+drop-of-take l zero filled = let whole : filled - 0 ≡ filled = omega arith in rw whole
 drop-of-take [] (suc used) filled = rw (take-nil filled, take-nil (filled - suc used))
 drop-of-take (b ∷ l) (suc used) zero = let none : 0 - suc used ≡ 0 = omega arith in rw none
 drop-of-take (b ∷ l) (suc used) (suc filled) =
@@ -140,10 +141,10 @@ pub turned : (text buffer : List ℕ) (begun : Stage) (filled : ℕ) (ended : Bo
     → length buffer' ≡ length buffer → take kept buffer' ≡ take kept (drop (p .used) buffer)
     → Turns text buffer (record { stage = begun; filled = filled; ended = ended }) text' buffer' out (record { stage = p .stage; kept = kept; end = p .end; next = next })
 turned text buffer begun filled ended text' buffer' out p kept next inside answers far chosen count size moved =
-    let all : filled - 0 ≡ filled = omega arith in
+    let whole : filled - 0 ≡ filled = omega arith in
     let left : take kept buffer' ≡ drop (p .used) (take filled buffer) = rw (moved, count, ← drop-of-take buffer (p .used) filled) in
-    let a : Answers text begun (take filled buffer) ended text' out p = rw all at answers in
-    let due : nextIsDue (p .stage) (length out - p .end) ended (drop (p .used) (take filled buffer)) ≡ false = rw all at far in
+    let a : Answers text begun (take filled buffer) ended text' out p = rw whole at answers in
+    let due : nextIsDue (p .stage) (length out - p .end) ended (drop (p .used) (take filled buffer)) ≡ false = rw whole at far in
     record {
       kept = omega (arith, inside, count, size);
       written = a .written;

@@ -1,4 +1,4 @@
--- An input that arrives in parts: what a whole record says does not depend on what follows it. Assumes nothing.
+-- What a whole record says, and the bytes behind it print, does not depend on what follows: for the loop over records. Assumes nothing.
 use mathlib.Core.Path.{_≡_, refl, _∙_, ap, sym}
 use mathlib.Core.Bool.{Bool, true, false}
 use mathlib.Core.List.{List, [], _∷_, _++_, append-nil}

@@ -1,0 +1,2 @@
+-- What script's example cites.
+pub mod Example

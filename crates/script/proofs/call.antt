@@ -1,0 +1,2 @@
+-- What the proofs of the functions that show an answer use.
+mod Refused
