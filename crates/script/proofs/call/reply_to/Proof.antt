@@ -11,6 +11,9 @@ enum-told c = search needs
 peek-requires : tie.Need-peek-requires
 peek-requires c κs = search needs
 
+answer-requires : tie.Need-answer-requires
+answer-requires c κs = search needs
+
 seen-reply-requires : tie.Need-seen-reply-requires
 seen-reply-requires c κs = search needs
 
@@ -55,7 +58,9 @@ block-reply-requires c κs = search needs
 
 returns : tie.Need-returns
 unfolding replyOf
-returns c = c .seen-reply .ensures ∙ ap outcomeReply (c .before .peek .ensures) ∙ rw (c .before .before .enum-told .given .1)
+returns c =
+    let p = c .before .before in
+    c .seen-reply .ensures ∙ ap outcomeReply (c .before .answer .ensures ∙ p .peek .ensures) ∙ rw (p .before .enum-told .given .1)
 
 returns-2 : tie.Need-returns-2
 unfolding replyOf
@@ -79,6 +84,7 @@ reply-to-spec =
     (tie.spec
     enum-told
     peek-requires
+    answer-requires
     seen-reply-requires
     enum-told-2
     next-requires
