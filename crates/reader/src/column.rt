@@ -9,6 +9,7 @@ ghost use Rattle.reader.specs.State.{freshOf};
 ghost use Rattle.reader.specs.Calls.{refusalWith, ownCount};
 ghost use Rattle.reader.specs.Column.{partFrom, addTotals, cellTotals, columnFrom, columnOf, columnOutcomeOf};
 ghost use Rattle.reader.specs.Code.OrdinaryCells.{Countable, Ordinary, Stretch, fillsOf, isServed, isQuick, passing as passingOf, doubles as doublesOf, beforeDigits, ordinaryTotals};
+use crate::min::min_usize;
 use crate::pairs::Pairs;
 use crate::pairs::count_pairs;
 use crate::passing::Syntax;
@@ -42,12 +43,6 @@ pub enum Column {
 pub struct Reached {
     pub cell: usize,
     pub at: usize,
-}
-
-fn min_usize(a: usize, b: usize) -> usize
-    ensures { λ r. ⌜ r ≡ min a b ⌝ }
-{
-    if a < b { a } else { b }
 }
 
 // Where a cell ends, with its end brought within bounds.

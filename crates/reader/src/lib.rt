@@ -3,6 +3,7 @@
 pub mod bytes;
 pub mod column;
 pub mod iterator;
+pub mod min;
 pub mod noskip;
 pub mod open;
 pub mod pairs;

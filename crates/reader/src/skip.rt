@@ -14,6 +14,7 @@ ghost use Rattle.reader.specs.Code.TakeSums.{takeSumsFrom};
 ghost use Rattle.reader.specs.Answer.{outcomeOf, peekOutcomeOf, countOutcomeOf, blockOutcomeOf};
 ghost use Rattle.reader.specs.Calls.{peekOf, nextOf, nextAllOf, takenFrom, shownCount, currentCountOf, peeked, refusalWith};
 ghost use Rattle.reader.specs.Block.{blockFrom, takeNOf, BlockPart};
+use crate::min::min_usize;
 use crate::passing::Syntax;
 use crate::passing::landing;
 use crate::passing::separator_landing;
@@ -376,8 +377,7 @@ fn bytes_left(s: &[u8], cursor: usize, n: usize) -> usize
     requires { ⌜ cursor ≤ length (now s) ⌝ }
     ensures { λ r. ⌜ r ≡ min n (length (now (s .entry)) - cursor) ⌝ }
 {
-    let left = s.len() - cursor;
-    if n < left { n } else { left }
+    min_usize(n, s.len() - cursor)
 }
 
 // The block of a state that is not refused.

@@ -11,8 +11,8 @@ use crate::record::body_length;
 use crate::record::kind_of;
 use crate::record::whole_record;
 use crate::run::Stage;
-use crate::run::least;
 use crate::run::respond;
+use reader::min::min_usize;
 
 // How far a part of the input is answered: how far the run is, how many bytes of the part were read and how many of the buffer written.
 pub struct Progress {
@@ -88,7 +88,7 @@ pub(crate) fn answer(
         let next = response.stage;
         stage = next;
         end = response.end;
-        used = used + 1 + least(there, size);
+        used = used + 1 + min_usize(there, size);
     }
     Progress { stage, used, end }
 }

@@ -1,7 +1,7 @@
 // A run of a call script: what it answers to one record.
 ghost use mathlib.Core.Path.{_≡_};
 ghost use mathlib.Core.List.{List};
-ghost use Prim.Native.Nat.{ℕ, _+_, _≤_, min};
+ghost use Prim.Native.Nat.{ℕ, _+_, _≤_};
 ghost use lib.ListN.{length, take};
 ghost use Rattle.script.specs.Line.{longestLine};
 ghost use Rattle.script.specs.Run.{mostText, runIn, stops, addText, openText, gatheringCall, callResponse, openedCall, gatheringResponse, openedResponse, respond as respond·, Responds};
@@ -13,6 +13,7 @@ use crate::line::reply_line;
 use crate::record::Call;
 use crate::record::Record;
 use crate::refusal::Refusal;
+use reader::min::min_usize;
 use reader::open::Opened;
 use reader::open::open;
 use reader::state::Named;
@@ -36,12 +37,6 @@ pub enum Stage {
 pub struct Response {
     pub stage: Stage,
     pub end: usize,
-}
-
-pub fn least(a: usize, b: usize) -> usize
-    ensures { λ r. ⌜ r ≡ min a b ⌝ }
-{
-    if a < b { a } else { b }
 }
 
 fn responded(stage: Stage, end: usize) -> Response
@@ -132,7 +127,7 @@ fn call_line(
     requires { ⌜ at + longestLine ≤ length (now out) ⌝ }
     ensures { λ r. ⌜ Responds (callResponse (take n (now (text .entry))) state reader call) (now (text .entry)) (now (out .entry)) at (now (out .exit)) r ⌝ }
 {
-    let size = least(n, text.len());
+    let size = min_usize(n, text.len());
     let reply = reply_to(&text[0..size], state, reader, call);
     let end = reply_line(out, at, call, reply);
     let next = reply.state;

@@ -63,14 +63,14 @@ respond-requires c κs =
 add-used : tie.Need-add-used Inv-loop μ-loop
 add-used c = omega arith
 
-least-requires : tie.Need-least-requires Inv-loop μ-loop
-least-requires c κs = search needs
+min-usize-requires : tie.Need-min-usize-requires Inv-loop μ-loop
+min-usize-requires c κs = search needs
 
 add-used-2 : tie.Need-add-used-2 Inv-loop μ-loop
-add-used-2 c = omega (arith, c .least .ensures, c .before .before .before .before .before .before .before .before .before .before .before .before .before .before .before .loop-test .taken)
+add-used-2 c = omega (arith, c .min-usize .ensures, c .before .before .before .before .before .before .before .before .before .before .before .before .before .before .before .loop-test .taken)
 
 loop-less : tie.Need-loop-less Inv-loop μ-loop
-loop-less c = omega (arith, c .least .ensures, c .before .before .before .before .before .before .before .before .before .before .before .before .before .before .before .loop-test .taken)
+loop-less c = omega (arith, c .min-usize .ensures, c .before .before .before .before .before .before .before .before .before .before .before .before .before .before .before .loop-test .taken)
 
 loop-again : tie.Need-loop-again Inv-loop μ-loop
 loop-again c =
@@ -85,7 +85,7 @@ loop-again c =
     let answer = c .before .before .before .before .before .respond .ensures in
     answering-goes-on (a .text .now) (a .begun) (a .input .now) (a .ended) (a .out .now) (l .text) (l .out) (l .stage) (l .used) (l .end) (l .inv) (c .before .before .before .before .before .before .before .before .before .before .before .before .before .before .before .loop-test .taken)
     (λ more. omega (arith, due-whole _ _ _ _ _ (due .result) (due .ensures) (not-false (due .result) (c .before .before .before .before .before .before .before .before .before .if1 .left)) more, size, length-drop (l .used + 1) (a .input .now)))
-    (least-as (a .input .now) (l .used + 1) (c .least .result) (body .result) (bodyLength (kindOf n)) size (c .least .ensures))
+    (least-as (a .input .now) (l .used + 1) (c .min-usize .result) (body .result) (bodyLength (kindOf n)) size (c .min-usize .ensures))
     (answer .0)
     (responds-at (runIn (l .text) (l .stage)) _ n (kind .result) (asked .result) (kind .ensures) (asked .ensures) (answer .1))
 
@@ -137,7 +137,7 @@ answer-spec =
     record-behind-requires
     respond-requires
     add-used
-    least-requires
+    min-usize-requires
     add-used-2
     loop-less
     loop-again
