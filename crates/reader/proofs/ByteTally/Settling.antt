@@ -1,5 +1,4 @@
--- What a reader passes at a place, over any reading: separators only, where its rule lets it; and where the reading settles, it
--- passes nothing at the place behind them. Assumes nothing.
+-- Where a reading settles, a reader passes nothing at the place behind what it passed: for a peek put in before a call. Assumes nothing.
 use mathlib.Core.Path.{_≡_, _∙_, refl, ap}
 use mathlib.Core.Bool.{Bool, true, false}
 use mathlib.Core.List.{List, head?}

@@ -1,6 +1,6 @@
--- What the walks of the functions that take a `Bytes` by value share beside `Kept.antt`.
+-- What the walks of the functions that take a `Bytes` by value share beside `Ownership.antt`.
 --     α, B             the struct's lifetime and its type, over the signature's lifetimes
---     vals, tells      what `Close.antt`'s `concluded` asks of the parameter
+--     vals, tells      what `Conclusion.antt`'s `concluded` asks of the parameter
 -- And where the struct is taken apart and a covered function called on its slice and its state, whatever the other parameters are, if what they own is had for nothing:
 --     asked            from what there is on entry: what the called function asks, and what the struct owns
 --     left             from what the struct owns: what the parameters own at exit

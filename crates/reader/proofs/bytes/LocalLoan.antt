@@ -1,4 +1,4 @@
--- `Bytes::next_all` as a function with a `Bytes` in a local calls it: what it asks of the local that is lent (`Local.antt`), and what the caller has once it has returned and the local is back.
+-- `Bytes::next_all` as a function with a `Bytes` in a local calls it: what it asks of the local that is lent (`LocalValue.antt`), and what the caller has once it has returned and the local is back.
 --     asks         the tokens and the reference  ⊢  its pre
 --     gives        its post and what was kept  ⊢ ⇛ (the local's cell, what the new struct owns, and κ's token; and the answer's relation at the machine value returned)
 -- Assumes `Given`.

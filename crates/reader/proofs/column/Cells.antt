@@ -1,4 +1,5 @@
--- Laws of the cells of a column: when a cell is ordinary, when a buffer is quick, and what a stretch and a cell add. Assumes nothing.
+-- Laws of the cells of a column: when a cell is ordinary, when a buffer is quick, and what a stretch and a cell add: for the functions of
+-- src/column.rt. Assumes nothing.
 use mathlib.Core.Path.{_≡_, refl, ap}
 use mathlib.Core.Bool.{Bool, true, false, cond, not, _&&_, _||_, and-eq-true-iff}
 use mathlib.Core.List.{List, [], _∷_}

@@ -1,4 +1,5 @@
--- Ordinary cells side by side add what they add as one, and the walk over a column of cells. Assumes nothing.
+-- Ordinary cells side by side add what they add as one, and the walk over a column of cells: for `past_ordinary` and the sums.
+-- Assumes nothing.
 use mathlib.Core.Path.{_≡_, _∙_, refl, sym, ap}
 use mathlib.Core.Bool.{Bool, true, false}
 use mathlib.Core.List.{List, [], _∷_, _++_}

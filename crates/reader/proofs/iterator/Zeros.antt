@@ -1,4 +1,5 @@
--- The zero skip, read by read: what a read of it takes, and what the skip answers once its refusals are tested. Assumes nothing.
+-- The zero skip, read by read: what a read of it takes, and what the skip answers once its refusals are tested, and that its
+-- reads have come to their end. Assumes nothing.
 use mathlib.Core.Path.{_≡_, _∙_, refl, sym, ap}
 use mathlib.Core.List.{List}
 use mathlib.Core.Option.{some, none}

@@ -1,4 +1,4 @@
--- What a plain peek finds past the end, at a byte and at the end. Assumes nothing.
+-- What a plain peek finds past the end, at a byte and at the end: for both plain calls. Assumes nothing.
 use mathlib.Core.Path.{_≡_}
 use mathlib.Core.List.{List}
 use mathlib.Core.Option.{some, none}

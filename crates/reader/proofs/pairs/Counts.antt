@@ -1,4 +1,5 @@
--- Laws of the counts over bytes and the byte behind each, as the loops over a slice meet them. Assumes nothing.
+-- Laws of the counts over bytes and the byte behind each, as the loops over a slice meet them: for the quick way through a column.
+-- Assumes nothing.
 use mathlib.Core.Path.{_≡_, refl}
 use mathlib.Core.Bool.{Bool, true, false, cond, not, _&&_, _||_}
 use mathlib.Core.List.{List, [], _∷_}

@@ -1,4 +1,5 @@
--- Laws of passing, a law for each way that the code returns: which neighbour it answers, and where a cursor lands. Assumes nothing.
+-- Laws of passing, a law for each way that the code returns: which neighbour it answers, and where a cursor lands: for the
+-- functions of src/passing.rt and the loops. Assumes nothing.
 use mathlib.Core.Path.{_≡_, _∙_, ap}
 use mathlib.Core.Bool.{Bool, true, false, cond, not}
 use mathlib.Core.List.{List, head?}

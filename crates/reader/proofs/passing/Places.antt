@@ -1,4 +1,4 @@
--- Laws of a place and the bytes around it, by index, as a search over a slice meets them. Assumes nothing.
+-- Laws of a place and the bytes around it, by index, as a search over a slice meets them: for every room. Assumes nothing.
 use mathlib.Core.Path.{_≡_, refl, sym, _∙_}
 use mathlib.Core.Bool.{Bool, true, false, cond, not}
 use mathlib.Core.List.{List, [], _∷_, reverseAux, head?}

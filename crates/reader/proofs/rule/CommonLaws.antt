@@ -1,4 +1,4 @@
--- What the rules share, each by one test over every case, which antt computes. Assumes nothing.
+-- What the rules share, each by one test over every case, which antt computes: for passing, the column and demand 3. Assumes nothing.
 use mathlib.Core.Path.{_≡_, _∙_, sym, refl}
 use mathlib.Core.Bool.{Bool, true, false, cond, not, _&&_, _||_, Bool·beq}
 use Prim.Native.Nat.{ℕ}

@@ -1,4 +1,5 @@
--- The source's tables hold what the definitions say, in every case: tests that antt computes, and the laws that they give. Assumes nothing.
+-- The source's tables hold what the definitions say, in every case: tests that antt computes, and the laws that they give: for the
+-- functions of src/rule.rt. Assumes nothing.
 use mathlib.Core.Path.{_≡_, _∙_, sym, refl}
 use mathlib.Core.Bool.{Bool, true, false, cond, not, _&&_, Bool·beq}
 use Prim.Native.Nat.{ℕ, _+_, _*_}

@@ -1,4 +1,5 @@
--- A look that found a byte or the end is the peek that passed as many separators as the cursor moved. Assumes nothing.
+-- A look that found a byte or the end is the peek that passed as many separators as the cursor moved, and what each call that begins
+-- with a look answers for what was seen: for peeks, takes and conditional reads. Assumes nothing.
 use mathlib.Core.Path.{_≡_, sym, _∙_, ap}
 use mathlib.Core.List.{List}
 use mathlib.Core.Option.{some, none}

@@ -1,4 +1,5 @@
--- A loop on plain numbers: how a place and a count stand for a state, and what a peek from there sees. Assumes nothing.
+-- A loop on plain numbers: when a place and a count stand for a state, and what a peek from there sees: for both
+-- loops, of takes and of zeros. Assumes nothing.
 use mathlib.Core.Path.{_≡_, _∙_, sym}
 use mathlib.Core.List.{List}
 use Prim.Native.Nat.{ℕ, _+_, _-_, _<_, _≤_}

@@ -1,4 +1,5 @@
--- The loop of `take_run` by its definition, on plain numbers: a turn, the end, and what holds at each turn. Assumes nothing.
+-- The loop of `take_run` by its definition, on plain numbers: a turn, the end, and what holds at each turn: for the proof of
+-- `take_run`. Assumes nothing.
 use mathlib.Core.Path.{_≡_, _∙_, refl, sym}
 use mathlib.Core.Bool.{Bool, true, false, cond, _&&_}
 use mathlib.Core.List.{List}

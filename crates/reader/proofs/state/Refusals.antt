@@ -1,4 +1,4 @@
--- What a call may count on that is not refused, and what it answers where it is. Assumes nothing.
+-- What a call may count on that is not refused, and what it answers where it is: for every call. Assumes nothing.
 use mathlib.Core.Path.{_≡_, refl, sym}
 use mathlib.Core.Bool.{Bool, true, false, cond, not}
 use mathlib.Core.List.{List, [], _∷_, _++_}

@@ -1,4 +1,4 @@
--- `reader::bytes::take_to_end` meets its contract: a walk of its MIR, by hand. A `Bytes` is made in a local and lent to `next_all` (proofs/Local.antt, proofs/Lending.antt), whose answer is handed on.
+-- `reader::bytes::take_to_end` meets its contract: a walk of its MIR, by hand. A `Bytes` is made in a local and lent to `next_all` (proofs/bytes/LocalValue.antt, proofs/bytes/LocalLoan.antt), whose answer is handed on.
 -- Assumes nothing.
 use Rattle.reader.proofs.bytes.Logic.EL
 use Rattle.reader.proofs.bytes.Logic.LL

@@ -1,4 +1,4 @@
--- `reader::column::column_totals` meets its contract: the sums go on by a stretch of ordinary cells or by one cell (proofs/Stretches.antt).
+-- `reader::column::column_totals` meets its contract: the sums go on by a stretch of ordinary cells or by one cell (proofs/column/Stretches.antt).
 -- Assumes nothing.
 use mathlib.Core.Path.{sym, _∙_}
 use Prim.Native.Nat.{_-_}

@@ -1,4 +1,4 @@
--- `reader::column::past_ordinary` meets its contract: a walk over ordinary cells (proofs/Stretches.antt). Assumes nothing.
+-- `reader::column::past_ordinary` meets its contract: a walk over ordinary cells (proofs/column/Stretches.antt). Assumes nothing.
 use mathlib.Core.Path.{_≡_}
 use mathlib.Core.Bool.{true, false, not}
 use Prim.Native.Nat.{_-_, min, max}

@@ -1,5 +1,5 @@
 -- `reader::bytes::Bytes::get_buffer` meets its contract: a walk of its MIR, by hand. The slice that the struct holds is handed back.
--- The struct is Copy, so what its slice owns is had beside what it owns itself (proofs/Kept.antt).
+-- The struct is Copy, so what its slice owns is had beside what it owns itself (proofs/bytes/Ownership.antt).
 -- Assumes nothing.
 use Rattle.reader.proofs.bytes.Logic.{refl, [], _∷_, URA, named, Val, SProp, ent, emp, via, fst∗, Lft, Share, ftrue, flft, Memory, Routine, Heap, Calls, Loops, WpFn, Atoms, Fun, givenOf, tables, Given, ‵, _⊛_, _$_, _∵_, !, qed, by, move, use1, split, fsplit, fjoin, suffices, frame, done, whole, sub, look-in, look, init, forget, stop, fld, from, load, of-opd, assigns, returns, enter, alloc1, alloc0, params1, pass1, pass0, free1, free0, owns, Is, u8, ShrSlice, onEntry, says, Stays, stay-none, walkOf, goes-none, ends-at, yes}
 use Rattle.reader.specs.declared.bytes.Bytes.{Bytes}

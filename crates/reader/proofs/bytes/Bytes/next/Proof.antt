@@ -1,4 +1,4 @@
--- `reader::bytes::Bytes::next` meets its contract: it is of the shape of proofs/Shape.antt, over `skip::next`. Assumes nothing.
+-- `reader::bytes::Bytes::next` meets its contract: it is of the shape of proofs/bytes/LentCall.antt, over `skip::next`. Assumes nothing.
 use mathlib.Core.Path.{_≡_, refl}
 use base.Logic.{emp, id⊢}
 use contract.Monad.{factI}

@@ -1,4 +1,4 @@
--- `reader::bytes::Bytes::next_all` meets its contract: it is of the shape of proofs/Shape.antt, over `skip::next_all`. Assumes nothing.
+-- `reader::bytes::Bytes::next_all` meets its contract: it is of the shape of proofs/bytes/LentCall.antt, over `skip::next_all`. Assumes nothing.
 use mathlib.Core.Path.{_≡_, refl}
 use base.Logic.{emp, id⊢}
 use contract.Monad.{factI}

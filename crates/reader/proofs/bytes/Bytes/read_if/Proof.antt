@@ -1,4 +1,4 @@
--- `reader::bytes::Bytes::read_if` meets its contract: it is of the shape of proofs/ShapeWith.antt, over `iterator::read_if`. Assumes nothing.
+-- `reader::bytes::Bytes::read_if` meets its contract: it is of the shape of proofs/bytes/LentCallWith.antt, over `iterator::read_if`. Assumes nothing.
 use mathlib.Core.Path.{_≡_, refl}
 use base.Logic.{emp, id⊢}
 use contract.Monad.{factI}

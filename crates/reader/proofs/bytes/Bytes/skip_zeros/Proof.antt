@@ -1,4 +1,4 @@
--- `reader::bytes::Bytes::skip_zeros` meets its contract: it is of the shape of proofs/Shape.antt, over `iterator::skip_zeros`. Assumes nothing.
+-- `reader::bytes::Bytes::skip_zeros` meets its contract: it is of the shape of proofs/bytes/LentCall.antt, over `iterator::skip_zeros`. Assumes nothing.
 use mathlib.Core.Path.{_≡_, refl}
 use base.Logic.{emp, id⊢}
 use contract.Monad.{factI}

@@ -1,4 +1,4 @@
--- `reader::bytes::Bytes::take_n` meets its contract: it is of the shape of proofs/ShapeWith.antt, over `skip::take_n`. Assumes nothing.
+-- `reader::bytes::Bytes::take_n` meets its contract: it is of the shape of proofs/bytes/LentCallWith.antt, over `skip::take_n`. Assumes nothing.
 use mathlib.Core.Path.{_≡_, refl}
 use base.Logic.{emp, id⊢}
 use contract.Monad.{factI}
