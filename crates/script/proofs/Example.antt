@@ -1,5 +1,5 @@
 -- The example of document 01's call script: a theorem about the definition, by computation. Assumes nothing.
-use mathlib.Core.Path.{_≡_, refl}
+use mathlib.Core.Path.{_≡_}
 use mathlib.Core.List.{List, [], _∷_}
 use Prim.Native.Nat.{ℕ}
 use Rattle.reader.specs.State.{readerNamed}

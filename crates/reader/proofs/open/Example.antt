@@ -2,7 +2,7 @@
 -- integer reader over `1_2`, by computation. Script's example prints their lines. Assumes nothing.
 use mathlib.Core.Path.{_≡_, refl}
 use mathlib.Core.List.{List, [], _∷_}
-use mathlib.Core.Option.{Option, some, none}
+use mathlib.Core.Option.{some, none}
 use Prim.Native.Nat.{ℕ}
 use Rattle.word.specs.Bits.{bit}
 use Rattle.word.specs.Word.{word, field, flag, radixAt}
@@ -16,7 +16,7 @@ use Rattle.reader.specs.Reading.{flagsOf, syntaxOf, syntaxOn, readingWit
 use Rattle.reader.specs.State.{countOf, movedTo, countedBy}
 use Rattle.reader.specs.Answer.{Outcome}
 use Rattle.reader.specs.Calls.{refusalWith, peeked, peekOf, nextOf}
-use Rattle.reader.specs.Open.{OpenOutcome, wordOf, openOf}
+use Rattle.reader.specs.Open.{wordOf, openOf}
 
 abbrev pub text : List ℕ
 text = 0x31 ∷ 0x5F ∷ 0x32 ∷ []

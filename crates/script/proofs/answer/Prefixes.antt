@@ -1,5 +1,5 @@
 -- What a whole record says, and the bytes behind it print, does not depend on what follows: for the loop over records. Assumes nothing.
-use mathlib.Core.Path.{_≡_, refl, _∙_, ap, sym}
+use mathlib.Core.Path.{_≡_, refl, _∙_, ap}
 use mathlib.Core.Bool.{Bool, true, false}
 use mathlib.Core.List.{List, [], _∷_, _++_, append-nil}
 use Prim.Native.Nat.{ℕ, zero, suc, _+_, _-_, _≤_, _<_, min}
@@ -11,9 +11,7 @@ use lib.ListN.{length, take, drop, getD, length-append, length-drop}
 use lib.Seq.{take-all, take-append-le, drop-append-le, drop-cons, drop-drop, drop-length, drop-nil}
 use Rattle.script.specs.declared.record.Kind.{Kind}
 use Rattle.script.specs.declared.record.Kind.the-variants as kind
-use Rattle.script.specs.declared.record.Call.the-variants as call
-use Rattle.script.specs.declared.record.Record.the-variants as record'
-use Rattle.script.specs.Record.{kindOf, bodyLength, littleEndian, numberAt, wholeRecord, recordAt}
+use Rattle.script.specs.Record.{kindOf, bodyLength, numberAt, wholeRecord, recordAt}
 use Rattle.script.specs.Run.{Run}
 use Rattle.script.specs.Script.{responseAt, outputFrom}
 

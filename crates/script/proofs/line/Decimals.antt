@@ -1,9 +1,9 @@
 -- The fewest digits that hold a number, as `io::decimal` promises them, are those of the definition: for `long_number`; a number of one
 -- digit: for `number` and the lines. Assumes nothing.
-use mathlib.Core.Path.{_≡_, refl, _∙_, ap, sym}
+use mathlib.Core.Path.{_≡_, refl, _∙_, ap}
 use mathlib.Core.Bool.{Bool, true, false, cond}
 use mathlib.Core.List.{List, [], _∷_}
-use Prim.Native.Nat.{ℕ, zero, suc, _+_, _-_, _*_, _/_, _%_, _^_, _≤_, _<_}
+use Prim.Native.Nat.{ℕ, zero, suc, _+_, _-_, _/_, _%_, _^_, _≤_, _<_}
 use native.Mathlib.Omega.{arith, pow-step}
 use native.Mathlib.Nat.{pow-le-pow-right}
 use borrow.Author.Tests.{ltb-true, ltb-false, lt-ltb}

@@ -1,7 +1,7 @@
 -- Writing bytes behind others (`Wrote`), one after the other and in the loop of `put_all`: for every function that writes. Assumes nothing.
-use mathlib.Core.Path.{_≡_, refl, _∙_, ap, sym}
+use mathlib.Core.Path.{_≡_, refl, _∙_, ap}
 use mathlib.Core.List.{List, [], _∷_, _++_, append-assoc, append-nil}
-use Prim.Native.Nat.{ℕ, zero, suc, _+_, _≤_, _<_}
+use Prim.Native.Nat.{ℕ, _+_, _≤_, _<_}
 use native.Mathlib.Omega.{arith}
 use native.Mathlib.Numerals.{add-one}
 use lib.ListN.{length, take, set, getD, length-append, length-set, length-take}

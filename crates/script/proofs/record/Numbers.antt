@@ -1,10 +1,10 @@
 -- The number in the bytes of a record's body, read from the highest byte down: for `number_at`, and one byte for `byte_at`. Assumes nothing.
-use mathlib.Core.Path.{_≡_, refl, _∙_, ap, sym}
+use mathlib.Core.Path.{_≡_}
 use mathlib.Core.List.{List}
 use Prim.Native.Nat.{ℕ, suc, _+_, _-_, _*_, _^_, _≤_, _<_}
 use native.Mathlib.Omega.{arith, pow-step}
 use native.Mathlib.Nat.{pow-le-pow-right}
-use lib.ListN.{length, drop, getD}
+use lib.ListN.{length, getD}
 use lib.Seq.{drop-cons}
 use Rattle.script.specs.Record.{numberAt}
 

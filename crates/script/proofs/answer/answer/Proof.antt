@@ -4,7 +4,7 @@ use Prim.Native.Nat.{_+_, _-_}
 use native.Mathlib.Omega.{arith}
 use borrow.Author.Needs.{needs}
 use borrow.Author.Tests.{not-true, not-false}
-use lib.ListN.{length, getD, drop, length-drop}
+use lib.ListN.{length, getD, length-drop}
 use Rattle.script.specs.Record.{kindOf, bodyLength}
 use Rattle.script.specs.Run.{runIn}
 use Rattle.script.proofs.answer.Records.{Answering, answering-starts, answering-goes-on, due-room, due-whole, nothing-due, not-due, responds-at, least-as}

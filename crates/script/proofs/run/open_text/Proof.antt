@@ -1,7 +1,6 @@
 -- `script::run::open_text` meets its contract. Assumes nothing.
-use mathlib.Core.Path.{_≡_, refl, _∙_, ap, sym}
-use mathlib.Core.Option.{some, none}
-use Rattle.reader.specs.Open.{openOf, openOutcomeOf}
+use mathlib.Core.Path.{_∙_, ap, sym}
+use Rattle.reader.specs.Open.{openOutcomeOf}
 use Rattle.script.specs.Run.{openText}
 use Rattle.script.proofs.run.Responses.{responds}
 use borrow.Author.Needs.{needs}
