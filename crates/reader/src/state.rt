@@ -2,7 +2,8 @@
 ghost use mathlib.Core.Path.{_≡_};
 ghost use mathlib.Core.Bool.{cond, _&&_};
 ghost use Prim.Native.Nat.{_+_, _<_, _^_};
-ghost use lib.Dec.{eqb, leb};
+ghost use lib.Dec.{leb};
+ghost use lib.ListN.{length};
 ghost use Rattle.reader.specs.State.{namedReader, readerNamed, freshOf, isCounted, countOf, countSum, movedTo, countedBy};
 ghost use Rattle.reader.specs.Code.TakeSums.{countsDigits, withCount};
 ghost use Rattle.reader.specs.Answer.{numberOf, admissionNumber};
@@ -211,9 +212,9 @@ fn line(holds: bool, refusal: Admission, rest: Admission) -> Admission
     if holds { rest } else { refusal }
 }
 
-// Tests 16 and 17.
-pub(crate) fn admit_place(s: &[u8], state: State) -> Admission
-    ensures { λ r. ⌜ admissionNumber r ≡ placeRefusal (now (s .entry)) state ⌝ }
+// Tests 16 and 17, and then what the tests after them say.
+fn after_place(s: &[u8], state: State, rest: Admission) -> Admission
+    ensures { λ r. ⌜ admissionNumber r ≡ cond (leb (state .cursor) (length (now (s .entry)))) (cond (leb (countSum state) (state .cursor)) (admissionNumber rest) 17) 16 ⌝ }
 {
     line(
         state.cursor <= s.len(),
@@ -221,9 +222,16 @@ pub(crate) fn admit_place(s: &[u8], state: State) -> Admission
         line(
             counts_fit(state),
             Admission::Refused(Refusal::CountsExceedCursor),
-            Admission::Admitted,
+            rest,
         ),
     )
+}
+
+// Tests 16 and 17.
+pub(crate) fn admit_place(s: &[u8], state: State) -> Admission
+    ensures { λ r. ⌜ admissionNumber r ≡ placeRefusal (now (s .entry)) state ⌝ }
+{
+    after_place(s, state, Admission::Admitted)
 }
 
 // The refusal of a reader whose consecutive flag stands alone. The special reader's cannot.
@@ -246,37 +254,34 @@ fn admit_flags(flags: Flags, reader: Reader) -> Admission
     line(!alone, consecutive_refusal(reader), Admission::Admitted)
 }
 
-// The refusal of the first tests, else what the tests after them say.
-fn first_refusal(first: Admission, rest: Admission) -> Admission
-    ensures { λ r. ⌜ admissionNumber r ≡ cond (eqb (admissionNumber first) 0) (admissionNumber rest) (admissionNumber first) ⌝ }
-{
-    match first {
-        Admission::Admitted => rest,
-        Admission::Refused(refusal) => Admission::Refused(refusal),
-    }
-}
-
 // Tests 16, 17, then 12 to 14.
 pub(crate) fn admit(s: &[u8], state: State, flags: Flags, reader: Reader) -> Admission
     ensures { λ r. ⌜ admissionNumber r ≡ refusalWith flags (now (s .entry)) state reader ⌝ }
 {
-    first_refusal(admit_place(s, state), admit_flags(flags, reader))
+    after_place(s, state, admit_flags(flags, reader))
+}
+
+// Test 18, and then what the tests after it say.
+fn after_reader(reader: Reader, rest: Admission) -> Admission
+    ensures { λ r. ⌜ admissionNumber r ≡ cond (isCounted reader) (admissionNumber rest) 18 ⌝ }
+{
+    line(
+        is_counted(reader),
+        Admission::Refused(Refusal::SpecialReader),
+        rest,
+    )
 }
 
 // Tests 16, 17 and 18: those of a block take.
 pub(crate) fn admit_block(s: &[u8], state: State, reader: Reader) -> Admission
     ensures { λ r. ⌜ admissionNumber r ≡ blockRefusal (now (s .entry)) state reader ⌝ }
 {
-    let special = Admission::Refused(Refusal::SpecialReader);
-    first_refusal(
-        admit_place(s, state),
-        line(is_counted(reader), special, Admission::Admitted),
-    )
+    after_place(s, state, after_reader(reader, Admission::Admitted))
 }
 
 // Tests 16, 17, 18, then 12 to 14: those of a zero skip.
 pub(crate) fn admit_skip(s: &[u8], state: State, flags: Flags, reader: Reader) -> Admission
     ensures { λ r. ⌜ admissionNumber r ≡ skipRefusal flags (now (s .entry)) state reader ⌝ }
 {
-    first_refusal(admit_block(s, state, reader), admit_flags(flags, reader))
+    after_place(s, state, after_reader(reader, admit_flags(flags, reader)))
 }

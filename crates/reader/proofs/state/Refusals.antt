@@ -1,7 +1,7 @@
 -- What a call may count on that is not refused, and what it answers where it is: for every call. Assumes nothing.
 use mathlib.Core.Path.{_≡_, refl, sym}
 use mathlib.Core.Bool.{Bool, true, false, cond, not}
-use mathlib.Core.List.{List, [], _∷_, _++_}
+use mathlib.Core.List.{List, [], _∷_}
 use Prim.Native.Nat.{ℕ, _≤_}
 use native.Mathlib.Omega.{arith}
 use lib.Dec.{eqb, leb}
@@ -15,7 +15,6 @@ use Rattle.reader.specs.declared.state.Refusal.{Refusal}
 use Rattle.reader.specs.declared.state.Refusal.the-variants.{CursorPastEnd, CountsExceedCursor, SpecialReader, ConsecutiveInteger, ConsecutiveFraction, ConsecutiveExponent}
 use Rattle.reader.specs.State.{isCounted, countSum}
 use Rattle.word.specs.Check.{line, firstFailing}
-use Rattle.word.proofs.Lines.{line-last, joined}
 use Rattle.reader.specs.Reading.{Reading, isConsecutiveAlone}
 use Rattle.reader.specs.Answer.{numberOf}
 use Rattle.reader.specs.Calls.{line16, line17, line18, lineConsecutive, consecutiveNumber, placeRefusal, refusalWith, refused, peeked, peekOf}
@@ -100,12 +99,6 @@ module _ (f : Flags) (s : List ℕ) (st here : State) (r : Reader) (cursor : her
   pub still-skipping : skipRefusal f s st r ≡ 0 → skipRefusal f s here r ≡ 0
   unfolding skipRefusal Clear
   still-skipping clear = still-clear s st here (line18 r ∷ lineConsecutive f r ∷ []) clear cursor counts
-
--- where a list of tests does not fail, one more test after them decides
-pub one-more : (tests : List ℕ) (number : ℕ) (holds : Bool) (first rest answer : ℕ)
-    → first ≡ firstFailing tests → rest ≡ line number holds → answer ≡ cond (eqb first 0) rest first
-    → answer ≡ firstFailing (tests ++ (line number holds ∷ []))
-one-more tests number holds first rest answer f l e = rw (joined tests (line number holds ∷ []), line-last number holds, sym f, sym l) e
 
 -- a refusal's number is not that of success
 pub refusal-tells : (e : Refusal) → eqb (numberOf e) 0 ≡ false

@@ -1,32 +1,22 @@
--- `reader::state::admit_skip` meets its contract: tests 12 to 14 after those of a block take. Assumes nothing.
-use mathlib.Core.Bool.{not}
-use mathlib.Core.List.{[], _∷_}
-use Rattle.reader.specs.Reading.{isConsecutiveAlone}
-use Rattle.reader.specs.Calls.{line16, line17, line18, consecutiveNumber}
-use Rattle.reader.specs.Block.{blockRefusal}
+-- `reader::state::admit_skip` meets its contract, test by test. Assumes nothing.
+use Rattle.word.proofs.Lines.{line-first, line-last}
 use Rattle.reader.specs.ZeroSkip.{skipRefusal}
-use Rattle.reader.proofs.state.Refusals.{one-more}
 use borrow.Author.Needs.{needs}
 use Rattle.reader.proofs.state.admit_skip.Statement.{statement}
 use Rattle.reader.proofs.state.admit_skip.Tie as tie
 
-admit-block-requires : tie.Need-admit-block-requires
-admit-block-requires c κs = search needs
-
 admit-flags-requires : tie.Need-admit-flags-requires
 admit-flags-requires c κs = search needs
 
-first-refusal-requires : tie.Need-first-refusal-requires
-first-refusal-requires c κs = search needs
+after-reader-requires : tie.Need-after-reader-requires
+after-reader-requires c κs = search needs
+
+after-place-requires : tie.Need-after-place-requires
+after-place-requires c κs = search needs
 
 returns : tie.Need-returns
-unfolding blockRefusal skipRefusal
-returns c =
-    let l = c .before in
-    let b = l .before in
-    let a = b .before .before .args in
-    one-more (line16 (a .s .now) (a .state) ∷ line17 (a .state) ∷ line18 (a .reader) ∷ []) (consecutiveNumber (a .reader)) (not (isConsecutiveAlone (a .flags))) _ _ _
-    (b .admit-block .ensures) (l .admit-flags .ensures) (c .first-refusal .ensures)
+unfolding skipRefusal
+returns c = rw (c .after-place .ensures, c .before .after-reader .ensures, c .before .before .admit-flags .ensures, line-first 15, line-first 16, line-first 17, line-last)
 
 pub admit-skip-spec : {M : Type 1} → statement M
-admit-skip-spec = tie.close (tie.spec admit-block-requires admit-flags-requires first-refusal-requires returns)
+admit-skip-spec = tie.close (tie.spec admit-flags-requires after-reader-requires after-place-requires returns)
