@@ -3,5 +3,6 @@ pub mod Looks
 pub mod Takes
 pub mod LoopState
 mod SumsLoop
+pub mod RefusedRuns
 pub mod TakeLoop
 mod Blocks

@@ -1,8 +1,9 @@
 // Passing: what a format word says to a reader, and how far the reader's cursor moves over separators at a place.
 ghost use mathlib.Core.Path.{_≡_};
-ghost use mathlib.Core.Bool.{cond, false};
+ghost use mathlib.Core.Bool.{cond, true, false, not, _&&_};
 ghost use mathlib.Core.Option.{some, none};
 ghost use Prim.Native.Nat.{_+_, _-_, _%_, _^_, _≤_, _<_};
+ghost use lib.Dec.{eqb};
 ghost use lib.ListN.{length, drop, getD};
 ghost use Rattle.word.specs.Word.{mantissaRadix};
 ghost use Rattle.reader.specs.Rule.{ruleOf};
@@ -275,4 +276,16 @@ pub(crate) fn separator_landing(
         return landing(s, syntax, true, at);
     }
     later_landing(s, syntax, later, at)
+}
+
+// Where takes come to behind a byte that is taken. A separator that is refused is taken itself; with the consecutive flag the rest of
+// its run is refused too, since each of its separators has the same neighbours.
+pub(crate) fn past_taken(s: &[u8], syntax: Syntax, refused: bool, at: usize) -> usize
+    requires { ⌜ (at < length (now s)) × (refused ≡ true → getD (now s) at 0 ≡ syntax .separator) ⌝ }
+    ensures { λ r. ⌜ (r ≡ at + cond (refused && not (eqb (syntax .separator) 0)) (cond (syntax .flags .consecutive) (separatorRun (syntax .separator) (drop at (now (s .entry)))) 1) 1) × (at < r) × (r ≤ length (now (s .entry))) ⌝ }
+{
+    if refused & (syntax.separator != 0) {
+        return behind(s, syntax, at);
+    }
+    at + 1
 }

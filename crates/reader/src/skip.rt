@@ -17,6 +17,7 @@ ghost use Rattle.reader.specs.Block.{blockFrom, takeNOf, BlockPart};
 use crate::min::min_usize;
 use crate::passing::Syntax;
 use crate::passing::landing;
+use crate::passing::past_taken;
 use crate::passing::separator_landing;
 use crate::passing::syntax_for;
 use crate::rule::Flags;
@@ -246,8 +247,19 @@ fn count_past(counts: bool, b: u8, radix: u8, count: usize) -> usize
     count
 }
 
+// The count behind so many bytes of one kind, from what it is behind the first of them.
+fn count_behind(more: usize, count: usize, taken: usize) -> usize
+    requires { ⌜ count + taken < 2 ^ 64 ⌝ }
+    ensures { λ r. ⌜ r ≡ cond (eqb more count) count (count + taken) ⌝ }
+{
+    if more == count {
+        return count;
+    }
+    count + taken
+}
+
 // Takes until there is no byte, on plain numbers: from a place, with the reader's count there, which digits raise if it counts them.
-// Most bytes are no separator, so that compare stands first.
+// Most bytes are no separator, so that compare stands first; a run of separators that is refused is taken at once.
 pub(crate) fn take_run(
     s: &[u8],
     syntax: Syntax,
@@ -283,8 +295,10 @@ pub(crate) fn take_run(
             };
         }
         let c = s[place];
-        count = count_past(counts, c, radix, count);
-        at = place + 1;
+        let more = count_past(counts, c, radix, count);
+        let refused = (over == 0) & ((more == count) | (count != 0));
+        at = past_taken(s, syntax, refused, place);
+        count = count_behind(more, count, at - place);
         passed += over;
     }
     TakeSums { at, count, passed }

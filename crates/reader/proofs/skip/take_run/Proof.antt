@@ -4,12 +4,15 @@ use mathlib.Core.Path.{_≡_}
 use Prim.Native.Nat.{_+_, _-_}
 use native.Mathlib.Omega.{arith}
 use borrow.Author.Needs.{needs}
+use borrow.Author.Tests.{eqb-true}
 use lib.Dec.{eqb}
 use lib.ListN.{length}
 use Rattle.reader.specs.Reading.{readingWith}
 use Rattle.reader.proofs.passing.Places.{no-separator}
 use Rattle.reader.proofs.passing.Landings.{stays-on-other}
 use Rattle.reader.proofs.skip.SumsLoop.{Summing, summing-starts, summing-on, summing-over, summing-out}
+use Rattle.reader.proofs.Booleans.{and-left}
+use Rattle.reader.proofs.skip.RefusedRuns.{summing-taken}
 use Rattle.reader.proofs.skip.take_run.Statement.{statement}
 use Rattle.reader.proofs.skip.take_run.Tie as tie
 
@@ -82,25 +85,42 @@ shared-slice-read-c c = omega arith
 count-past-requires-2 : tie.Need-count-past-requires-2 Inv-loop μ-loop
 count-past-requires-2 c κs = omega (arith, c .before .before .before .before .before .before .loop .inv .few)
 
-add-at-2 : tie.Need-add-at-2 Inv-loop μ-loop
-add-at-2 c = omega arith
+past-taken-requires : tie.Need-past-taken-requires Inv-loop μ-loop
+past-taken-requires c κs =
+    let p = c .before .before .before in
+    let l = p .before .before .before .before in (
+      c .before .before .if2 .left,
+      λ e.
+          let none = eqb-true (p .separator-landing .result - l .loop .at) 0 (and-left (eqb (p .separator-landing .result - l .loop .at) 0) _ e) in
+          let stays : p .separator-landing .result ≡ l .loop .at = omega (arith, p .separator-landing .ensures .0, none) in
+          rw stays (p .before .if1 .left),
+    )
+
+sub-count-behind : tie.Need-sub-count-behind Inv-loop μ-loop
+sub-count-behind c = omega (arith, c .past-taken .ensures .1)
+
+count-behind-requires : tie.Need-count-behind-requires Inv-loop μ-loop
+count-behind-requires c κs =
+    let p = c .before .before .before .before in
+    omega (arith, c .past-taken .ensures .1, c .past-taken .ensures .2, p .before .before .before .before .loop .inv .few, p .separator-landing .ensures .0)
 
 add-passed : tie.Need-add-passed Inv-loop μ-loop
 add-passed c =
-    let p = c .before .before .before .separator-landing in
-    omega (arith, c .before .before .before .before .before .before .before .loop .inv .started, p .ensures .0, p .ensures .1)
+    let p = c .before .before .before .before .before in
+    omega (arith, p .before .before .before .before .loop .inv .started, p .separator-landing .ensures .0, p .separator-landing .ensures .1)
 
 loop-less-2 : tie.Need-loop-less-2 Inv-loop μ-loop
-loop-less-2 c = omega (arith, c .before .before .before .separator-landing .ensures .0)
+loop-less-2 c = omega (arith, c .before .before .before .before .before .separator-landing .ensures .0, c .before .past-taken .ensures .1)
 
 loop-again-2 : tie.Need-loop-again-2 Inv-loop μ-loop
 unfolding readingWith
 loop-again-2 c =
-    let l = c .before .before .before .before .before .before .before in
+    let f = c .before .before .before .before in
+    let p = f .before in
+    let l = p .before .before .before .before in
     let a = l .before .before .before .args in
-    let p = c .before .before .before .separator-landing in
-    rw (c .count-past2 .ensures)
-    (summing-on (readingWith (a .syntax)) (a .s .now) (a .counts) (a .start) (a .counted) (l .loop .at) (l .loop .count) (l .loop .passed) (l .loop .inv) (p .result) (p .ensures .0) (c .before .before .if2 .left))
+    rw (c .count-behind .ensures)
+    (summing-taken (readingWith (a .syntax)) (a .s .now) (a .counts) (a .start) (a .counted) (l .loop .at) (l .loop .count) (l .loop .passed) (p .separator-landing .result) _ (l .loop .inv) (p .before .if1 .left) (p .separator-landing .ensures .0) (f .if2 .left) (c .before .before .count-past2 .ensures) _ (c .before .past-taken .ensures .0))
 
 returns-2 : tie.Need-returns-2 Inv-loop μ-loop
 returns-2 c =
@@ -128,7 +148,9 @@ take-run-spec =
     returns
     shared-slice-read-c
     count-past-requires-2
-    add-at-2
+    past-taken-requires
+    sub-count-behind
+    count-behind-requires
     add-passed
     loop-less-2
     loop-again-2
