@@ -2,3 +2,4 @@
 pub mod ConditionalReads
 pub mod Zeros
 mod ZeroLoop
+mod ZeroRuns

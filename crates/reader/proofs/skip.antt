@@ -3,6 +3,6 @@ pub mod Looks
 pub mod Takes
 pub mod LoopState
 mod SumsLoop
-pub mod RefusedRuns
+mod RunsTaken
 pub mod TakeLoop
 mod Blocks

@@ -31,7 +31,7 @@ use Rattle.reader.proofs.Booleans.{contradicts}
 abbrev pub zeroAt : List ℕ → ℕ → Bool
 zeroAt s place = ltb place (length s) && isZero (getD s place 0)
 
-zero-there : (s : List ℕ) (place : ℕ) → zeroAt s place ≡ true → (place < length s) × (isZero (getD s place 0) ≡ true)
+pub zero-there : (s : List ℕ) (place : ℕ) → zeroAt s place ≡ true → (place < length s) × (isZero (getD s place 0) ≡ true)
 zero-there s place t = go (ltb place (length s)) refl where
   go : (u : Bool) → ltb place (length s) ≡ u → (place < length s) × (isZero (getD s place 0) ≡ true)
   go true e = (ltb-true place (length s) e, rw e at t)

@@ -1,7 +1,7 @@
 -- `reader::passing::past_taken` meets its contract: behind a separator stands what its rule looks at. Assumes nothing.
 use native.Mathlib.Omega.{arith}
 use Rattle.reader.proofs.Booleans.{and-left, and-right}
-use Rattle.reader.proofs.skip.RefusedRuns.{positive, goes-on}
+use Rattle.reader.proofs.passing.RefusedRuns.{positive, goes-on}
 use borrow.Author.Needs.{needs}
 use Rattle.reader.proofs.passing.past_taken.Statement.{statement}
 use Rattle.reader.proofs.passing.past_taken.Tie as tie

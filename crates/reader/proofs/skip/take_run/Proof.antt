@@ -12,7 +12,7 @@ use Rattle.reader.proofs.passing.Places.{no-separator}
 use Rattle.reader.proofs.passing.Landings.{stays-on-other}
 use Rattle.reader.proofs.skip.SumsLoop.{Summing, summing-starts, summing-on, summing-over, summing-out}
 use Rattle.reader.proofs.Booleans.{and-left}
-use Rattle.reader.proofs.skip.RefusedRuns.{summing-taken}
+use Rattle.reader.proofs.skip.RunsTaken.{summing-taken}
 use Rattle.reader.proofs.skip.take_run.Statement.{statement}
 use Rattle.reader.proofs.skip.take_run.Tie as tie
 
