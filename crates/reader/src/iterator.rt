@@ -108,8 +108,8 @@ pub fn read_if_value_cased(s: &[u8], state: State, reader: Reader, value: u8) ->
 pub fn admit_run(s: &[u8], state: State, reader: Reader) -> Admission
     ensures { λ r. ⌜ admissionNumber r ≡ skipRefusal (syntaxFor state reader .flags) (now (s .entry)) state reader ⌝ }
 {
-    let syntax = syntax_for(state, reader);
-    admit_skip(s, state, syntax.flags, reader)
+    let own = syntax_for(state, reader);
+    admit_skip(s, state, own.flags, reader)
 }
 
 fn skip_answered(skipped: Skipped, taken: usize, passed: usize, state: State) -> SkipAnswer
