@@ -11,7 +11,6 @@ ghost use Rattle.reader.specs.Calls.{readIfOf};
 ghost use Rattle.reader.specs.ZeroSkip.{isZero, skipRefusal, skipZerosOf};
 use crate::passing::Syntax;
 use crate::passing::landing;
-use crate::passing::past_taken;
 use crate::passing::syntax_for;
 use crate::skip::Looked;
 use crate::skip::look;
@@ -151,8 +150,7 @@ fn is_zero_at(s: &[u8], place: usize) -> bool
 }
 
 // Reads zeros until a read fails, from a state that is not refused. The loop keeps numbers only, and makes the state at its end; most
-// turns stand on a zero that is no separator, so that test stands first. Where `0` is the separator, a run of it that is refused is read
-// at once.
+// turns stand on a zero that is no separator, so that test stands first.
 fn take_zeros(s: &[u8], state: State, syntax: Syntax, reader: Reader) -> SkipAnswer
     requires { ⌜ skipRefusal (syntax .flags) (now s) state reader ≡ 0 ⌝ }
     ensures { λ r. ⌜ skipOutcomeOf r ≡ skipZerosOf (readingWith syntax) (now (s .entry)) state reader ⌝ }
@@ -176,11 +174,9 @@ fn take_zeros(s: &[u8], state: State, syntax: Syntax, reader: Reader) -> SkipAns
         if !is_zero_at(s, place) {
             break taken;
         }
-        let refused = (separator == 48) & (over == 0) & (count != 0);
-        at = past_taken(s, syntax, refused, place);
-        let zeros = at - place;
-        count += zeros;
-        taken += zeros;
+        at += 1;
+        count += 1;
+        taken += 1;
     };
     let end = with_count(moved(state, at), reader, count);
     skip_answered(Skipped::Zeros(zeros), zeros, passed, end)

@@ -1,5 +1,5 @@
 -- Where `0` is the separator and is refused to a reader that has counted, so is the rest of its run, and the reads of a zero skip come to
--- the run's end one by one. For the proof of `take_zeros`. Assumes nothing.
+-- the run's end one by one. For a loop that goes there at once; `take_zeros` does not yet. Assumes nothing.
 use mathlib.Core.Path.{_≡_, _∙_, refl, sym}
 use mathlib.Core.Bool.{Bool, true, false, cond, not, _&&_}
 use mathlib.Core.List.{List}

@@ -1,18 +1,15 @@
 -- `reader::iterator::take_zeros` meets its contract: the loop's numbers are those of a list of reads of `0` (ZeroLoop), and
 -- each turn moves the place on. Assumes nothing.
 use mathlib.Core.Path.{_≡_, _∙_, sym}
-use mathlib.Core.Bool.{true, _&&_}
+use mathlib.Core.Bool.{true}
 use Prim.Native.Nat.{ℕ, _-_, _<_}
 use native.Mathlib.Omega.{arith}
 use borrow.Author.Needs.{needs}
-use borrow.Author.Tests.{eqb-true, not-true, not-false}
+use borrow.Author.Tests.{not-true, not-false}
 use lib.Dec.{eqb}
 use lib.ListN.{length}
 use Rattle.reader.specs.Reading.{readingWith}
-use Rattle.reader.proofs.iterator.ZeroLoop.{zeroAt, zero-there, PlainZero, plain-zero, Skipping, skipping-starts, skipping-sums, skipping-room, skipping-by-one, skipping-over}
-use Rattle.reader.proofs.iterator.ZeroRuns.{skipping-taken}
-use Rattle.reader.proofs.skip.LoopState.{standing-counts}
-use Rattle.reader.proofs.Booleans.{and-left}
+use Rattle.reader.proofs.iterator.ZeroLoop.{zeroAt, PlainZero, plain-zero, Skipping, skipping-starts, skipping-sums, skipping-room, skipping-on, skipping-by-one, skipping-over}
 use Rattle.reader.proofs.iterator.take_zeros.Statement.{statement}
 use Rattle.reader.proofs.iterator.take_zeros.Tie as tie
 
@@ -85,57 +82,42 @@ add-passed c =
 is-zero-at-requires-2 : tie.Need-is-zero-at-requires-2 Inv-loop μ-loop
 is-zero-at-requires-2 c κs = search needs
 
--- a turn that passes separators first, or reads a run of them at once
+-- a turn that passes separators first: likewise
 zero-found : (c : tie.Else2 Inv-loop μ-loop) → zeroAt (c .before .before .before .before .before .before .before .before .args .s .now) (c .before .before .place-at .result) ≡ true
 zero-found c = sym (c .before .is-zero-at2 .ensures) ∙ not-false _ (c .if2 .left)
 
-past-taken-requires : tie.Need-past-taken-requires Inv-loop μ-loop
-past-taken-requires c κs =
-    let l = c .before .before .before .before .before in
-    let p = c .before .before .place-at .result in
-    let there = zero-there (l .before .before .before .args .s .now) p (zero-found c) in (
-      there .0,
-      λ e.
-          let separator = l .before .before .before .args .syntax .separator in
-          let both = and-left (eqb separator 48 && eqb (p - l .loop .at) 0) _ e in
-          eqb-true _ 48 (there .1) ∙ sym (eqb-true separator 48 (and-left (eqb separator 48) (eqb (p - l .loop .at) 0) both)),
-    )
+abbrev size-2 : (c : tie.Else2 Inv-loop μ-loop) → ℕ
+size-2 c = length (c .before .before .before .before .before .before .before .before .args .s .now)
 
-sub-zeros : tie.Need-sub-zeros Inv-loop μ-loop
-sub-zeros c = omega (arith, c .past-taken .ensures .1)
+room-2 : (c : tie.Else2 Inv-loop μ-loop)
+    → (c .before .before .place-at .result < size-2 c) × (c .before .before .before .before .before .loop .count < size-2 c) × (c .before .before .before .before .before .loop .taken < size-2 c)
+room-2 c =
+    let p = c .before .before in
+    let l = p .before .before .before in
+    let a = l .before .before .before .args in
+    skipping-room (readingWith (a .syntax)) (a .s .now) (a .reader) (a .state) (l .loop .at) (l .loop .count) (l .loop .taken) (l .loop .passed) (l .loop .inv) (p .place-at .result) (omega (arith, p .place-at .ensures .0)) (zero-found c)
+
+add-at-2 : tie.Need-add-at-2 Inv-loop μ-loop
+add-at-2 c = omega (arith, room-2 c .0)
 
 add-count-2 : tie.Need-add-count-2 Inv-loop μ-loop
-add-count-2 c =
-    let p = c .before .before .before in
-    let l = p .before .before .before in
-    let a = l .before .before .before .args in
-    let counts = standing-counts (a .s .now) (a .reader) (a .state) (l .loop .at) (l .loop .count) (l .loop .inv .stands) in
-    omega (arith, c .past-taken .ensures .1, c .past-taken .ensures .2, p .place-at .ensures .0, counts)
+add-count-2 c = omega (arith, room-2 c .1)
 
 add-taken-2 : tie.Need-add-taken-2 Inv-loop μ-loop
-add-taken-2 c =
-    let p = c .before .before .before in
-    let l = p .before .before .before in
-    let a = l .before .before .before .args in
-    let sums = skipping-sums (readingWith (a .syntax)) (a .s .now) (a .reader) (a .state) (l .loop .at) (l .loop .count) (l .loop .taken) (l .loop .passed) (l .loop .inv) in
-    omega (arith, c .past-taken .ensures .1, c .past-taken .ensures .2, p .place-at .ensures .0, sums)
+add-taken-2 c = omega (arith, room-2 c .2)
 
 loop-less-2 : tie.Need-loop-less-2 Inv-loop μ-loop
-loop-less-2 c =
-    let p = c .before .before .before in
-    let s = p .before .before .before .before .before .before .args .s .now in
-    let there = zero-there s (p .place-at .result) (zero-found (c .before)) in
-    omega (arith, c .past-taken .ensures .1, p .place-at .ensures .0, there .0)
+loop-less-2 c = omega (arith, c .before .before .place-at .ensures .0, room-2 c .0)
 
 loop-again-2 : tie.Need-loop-again-2 Inv-loop μ-loop
 unfolding readingWith
 loop-again-2 c =
-    let p = c .before .before .before in
+    let p = c .before .before in
     let l = p .before .before .before in
     let b = l .before .before .before in
     let a = b .args in
-    skipping-taken (readingWith (a .syntax)) (a .s .now) (a .reader) (a .state) (b .pre) (l .loop .at) (l .loop .count) (l .loop .taken) (l .loop .passed) (p .place-at .result) (l .loop .inv)
-    (p .place-at .ensures .0) (zero-found (c .before)) _ (c .past-taken .ensures .0)
+    skipping-on (readingWith (a .syntax)) (a .s .now) (a .reader) (a .state) (b .pre) (l .loop .at) (l .loop .count) (l .loop .taken) (l .loop .passed) (l .loop .inv)
+    (p .place-at .result) (p .place-at .ensures .0) (zero-found c)
 
 moved-requires : tie.Need-moved-requires Inv-loop μ-loop
 moved-requires c κs = search needs
@@ -177,8 +159,7 @@ take-zeros-spec =
     sub-over
     add-passed
     is-zero-at-requires-2
-    past-taken-requires
-    sub-zeros
+    add-at-2
     add-count-2
     add-taken-2
     loop-less-2
