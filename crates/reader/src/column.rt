@@ -24,7 +24,7 @@ use crate::state::Refusal;
 use crate::state::State;
 use crate::state::admit;
 use crate::state::counts_digits;
-use word::digit::char_is_digit_by_range;
+use word::digit::char_is_digit_by_table;
 use word::format_flags::Format;
 
 // What is summed over the cells.
@@ -139,7 +139,7 @@ fn serves(syntax: Syntax, reader: Reader) -> bool
     ensures { λ r. ⌜ r ≡ isServed syntax reader ⌝ }
 {
     let counts = counts_digits(syntax.flags, reader);
-    let digit = char_is_digit_by_range(syntax.separator, syntax.radix);
+    let digit = char_is_digit_by_table(syntax.separator, syntax.radix);
     counts & (syntax.separator != 0) & !digit
 }
 
@@ -170,7 +170,7 @@ fn is_ordinary(s: &[u8], syntax: Syntax, start: usize, end: usize) -> bool
     let last = end - 1;
     let first_byte = s[start];
     let last_byte = s[last];
-    char_is_digit_by_range(first_byte, syntax.radix) & (last_byte != syntax.separator)
+    char_is_digit_by_table(first_byte, syntax.radix) & (last_byte != syntax.separator)
 }
 
 // How far ordinary cells go from a cell on.
@@ -217,7 +217,7 @@ fn stretch_totals(s: &[u8], syntax: Syntax) -> Totals
     }
     let behind = count_pairs(digit_pairs(syntax), s);
     let first = s[0];
-    if char_is_digit_by_range(first, syntax.radix) {
+    if char_is_digit_by_table(first, syntax.radix) {
         return Totals {
             taken,
             passed,

@@ -1,5 +1,5 @@
 // Counts over bytes and the byte behind each: how many separators stand before a byte of some kind, or how many bytes are digits.
-// The loop has no branch and counts in a byte, so that many bytes are compared at once.
+// The loop has no branch, tells digits by their ranges and counts in a byte, so that many bytes are compared at once.
 ghost use mathlib.Core.Path.{_≡_};
 ghost use mathlib.Core.Bool.{cond};
 ghost use Prim.Native.Nat.{_+_, _≤_, _<_};

@@ -16,7 +16,7 @@ use crate::rule::Later;
 use crate::rule::Neighbour;
 use crate::state::Reader;
 use crate::state::State;
-use word::digit::char_is_digit_by_range;
+use word::digit::char_is_digit_by_table;
 use word::format_flags::Format;
 
 // What a format word says to one reader.
@@ -103,7 +103,7 @@ fn neighbour(syntax: Syntax, b: u8) -> Neighbour
 {
     Neighbour {
         exists: true,
-        digit: char_is_digit_by_range(b, syntax.radix),
+        digit: char_is_digit_by_table(b, syntax.radix),
         separator: (syntax.separator != 0) & (b == syntax.separator),
     }
 }

@@ -34,7 +34,7 @@ use crate::state::counted;
 use crate::state::counts_digits;
 use crate::state::moved;
 use crate::state::with_count;
-use word::digit::char_is_digit_by_range;
+use word::digit::char_is_digit_by_table;
 use word::format_flags::Format;
 
 // What a peek or a take sees.
@@ -207,7 +207,7 @@ fn past_byte(state: State, syntax: Syntax, reader: Reader, b: u8) -> State
     ensures { λ r. ⌜ r ≡ takenFrom (readingWith syntax) reader b state ⌝ }
 {
     let next = moved(state, state.cursor + 1);
-    if has_any(syntax.flags) & char_is_digit_by_range(b, syntax.radix) {
+    if has_any(syntax.flags) & char_is_digit_by_table(b, syntax.radix) {
         return counted(next, reader);
     }
     next
@@ -236,12 +236,15 @@ pub fn next(s: &[u8], state: State, reader: Reader) -> Answer
     next_in(s, state, syntax, reader)
 }
 
-// The reader's count after a byte that it takes.
+// The reader's count after a byte that it takes. Whether it counts is a test of its own, so that a loop makes it once.
 fn count_past(counts: bool, b: u8, radix: u8, count: usize) -> usize
     requires { ⌜ count + 1 < 2 ^ 64 ⌝ }
     ensures { λ r. ⌜ r ≡ cond (counts && isDigit b radix) (count + 1) count ⌝ }
 {
-    if counts & char_is_digit_by_range(b, radix) {
+    if !counts {
+        return count;
+    }
+    if char_is_digit_by_table(b, radix) {
         return count + 1;
     }
     count

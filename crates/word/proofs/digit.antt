@@ -1,3 +1,4 @@
 -- Digits by the table of values, and by the ranges of figures and letters.
-pub mod Table
+mod AllBytes
+mod Table
 mod Ranges

@@ -6,7 +6,6 @@ ghost use mathlib.Core.Bool.{cond};
 ghost use Rattle.word.specs.Word.{flag, digitSeparator, basePrefix, baseSuffix, mantissaRadix, exponentBase, exponentRadix};
 ghost use Rattle.word.specs.Error.{numberOf};
 ghost use Rattle.word.specs.Check.{firstFailing, radixLines, controlLines, flagLines, consecutiveAlone, consecutiveLines, fullCheck};
-use crate::digit::VALUES;
 use crate::error::Error;
 use crate::format_flags as flags;
 use crate::format_flags::Format;
@@ -249,18 +248,14 @@ pub fn radix_error_impl(format: Format) -> Error
     )
 }
 
-// Lines 4 to 7. The table of digit values is built once for the three control bytes.
+// Lines 4 to 7. The radix is found once for the three control bytes.
 fn control_error(format: Format) -> Error
     ensures { λ r. ⌜ numberOf r ≡ firstFailing (controlLines format) ⌝ }
 {
-    let values = VALUES;
-    let separator = flags::is_valid_optional_control(
-        &values,
-        format,
-        flags::digit_separator(format),
-    );
-    let prefix = flags::is_valid_optional_control(&values, format, flags::base_prefix(format));
-    let suffix = flags::is_valid_optional_control(&values, format, flags::base_suffix(format));
+    let radix = flags::larger_radix(format);
+    let separator = flags::is_valid_optional_control_radix(radix, flags::digit_separator(format));
+    let prefix = flags::is_valid_optional_control_radix(radix, flags::base_prefix(format));
+    let suffix = flags::is_valid_optional_control_radix(radix, flags::base_suffix(format));
     let punctuation = line(
         flags::is_valid_punctuation(format),
         Error::InvalidPunctuation,

@@ -3,11 +3,9 @@ ghost use mathlib.Core.Path.{_≡_};
 ghost use Prim.Native.Nat.{ℕ, _+_, _≤_, _<_, max};
 ghost use Rattle.word.specs.Bits.{bits, bit};
 ghost use Rattle.word.specs.Word.{field, flag, digitSeparator, basePrefix, baseSuffix, mantissaRadix, radixAt, exponentBase, exponentRadix};
-ghost use Rattle.word.specs.Digit.{digitTable};
 ghost use Rattle.word.specs.Check.{validRadix, validControlIn, validControl, validPunctuation, validExponentFlags};
 use crate::ascii::is_valid_ascii;
-use crate::digit::VALUES;
-use crate::digit::char_is_digit_in;
+use crate::digit::char_is_digit_const;
 
 // The word's 128 bits in two halves; bit 0 is the lowest of `lo`, bit 64 the lowest of `hi`.
 pub struct Format {
@@ -177,11 +175,11 @@ pub fn is_valid_exponent_flags(format: Format) -> bool
     !(flag_at(format, NO_EXPONENT_NOTATION) & flag_at(format, REQUIRED_EXPONENT_NOTATION))
 }
 
-fn is_valid_optional_control_radix(values: &[u8; 256], radix: u32, value: u8) -> bool
-    requires { ⌜ now values ≡ digitTable ⌝ }
+// Whether a byte may be a control byte of a word whose digits are those of this radix.
+pub(crate) fn is_valid_optional_control_radix(radix: u32, value: u8) -> bool
     ensures { λ r. ⌜ r ≡ validControlIn radix value ⌝ }
 {
-    !char_is_digit_in(values, value, radix)
+    !char_is_digit_const(value, radix)
         & (value != b'+')
         & (value != b'-')
         & (is_valid_ascii(value) | (value == 0))
@@ -193,23 +191,19 @@ fn larger(a: u32, b: u32) -> u32
     if b < a { a } else { b }
 }
 
-// The digits of the larger radix are those of both.
-pub(crate) fn is_valid_optional_control(values: &[u8; 256], format: Format, value: u8) -> bool
-    requires { ⌜ now values ≡ digitTable ⌝ }
-    ensures { λ r. ⌜ r ≡ validControl format value ⌝ }
+// The larger of mantissa and exponent radix: its digits are those of both.
+pub(crate) fn larger_radix(format: Format) -> u32
+    ensures { λ r. ⌜ r ≡ max (mantissaRadix format) (exponentRadix format) ⌝ }
 {
-    let mantissa = mantissa_radix(format);
-    let radix = larger(mantissa, exponent_radix(format));
-    is_valid_optional_control_radix(values, radix, value)
+    larger(mantissa_radix(format), exponent_radix(format))
 }
 
-// The same of one of the word's own control bytes.
+// Whether the control byte at a position of the word is valid.
 fn is_valid_control_at(format: Format, shift: u32) -> bool
     requires { ⌜ (64 ≤ shift) × (shift < 128) ⌝ }
     ensures { λ r. ⌜ r ≡ validControl format (field format shift 8) ⌝ }
 {
-    let values = VALUES;
-    is_valid_optional_control(&values, format, byte_at(format, shift))
+    is_valid_optional_control_radix(larger_radix(format), byte_at(format, shift))
 }
 
 pub fn is_valid_digit_separator(format: Format) -> bool

@@ -2,14 +2,14 @@
 -- letter from `a`, both modulo 256, are below the number of figures or letters exactly where the definition says so. Assumes nothing.
 use mathlib.Core.Path.{_≡_, _∙_, refl, sym, ap}
 use mathlib.Core.Bool.{Bool, true, false, cond, _&&_, _||_}
-use Prim.Native.Nat.{ℕ, zero, suc, _+_, _-_, _%_, _^_, _<_, _≤_, min}
-use native.Mathlib.Nat.{add-zero, zero-add, add-suc, suc-add, le-of-suc-le-suc, not-suc-le-zero}
+use Prim.Native.Nat.{ℕ, _+_, _-_, _%_, _<_, _≤_, min}
 use native.Mathlib.Omega.{arith}
-use borrow.Author.Tests.{lt-ltb, le-ltb, ltb-true, ltb-false, leb-true, leb-false, eqb-true}
-use mathlib.Core.Option.{Option, some, none}
+use borrow.Author.Tests.{lt-ltb, le-ltb, ltb-true, ltb-false, leb-true, eqb-true}
+use mathlib.Core.Option.{some, none}
 use lib.Bits.{bitOr}
 use lib.Dec.{eqb, ltb, leb}
 use Rattle.word.specs.Digit.{among, digitValue, isDigit, below}
+use Rattle.word.proofs.digit.AllBytes.{left, right, at-byte}
 use Rattle.word.proofs.digit.Table.{up-to}
 
 -- the two distances
@@ -26,27 +26,8 @@ apart c =
     (cond (among 65 90 c) (leb 10 (figure c) && eqb (letter c) (c - 65))
     (cond (among 97 122 c) (leb 10 (figure c) && eqb (letter c) (c - 97)) (leb 10 (figure c) && leb 26 (letter c))))
 
--- a test of n bytes from c up, computed
-abbrev passes : (ℕ → Bool) → ℕ → ℕ → Bool
-passes f c zero = true
-passes f c (suc n) = f c && passes f (suc c) n
-
-left : (a b : Bool) → a && b ≡ true → a ≡ true
-left true b e = refl
-left false b e = e
-
-right : (a b : Bool) → a && b ≡ true → b ≡ true
-right true b e = e
-right false b e = absurd (let z : _≡_ {A = ℕ} 0 1 = cc in omega arith)
-
-passes-at : (f : ℕ → Bool) (c n k : ℕ) → passes f c n ≡ true → k < n → f (c + k) ≡ true
-passes-at f c zero k e h = absurd (not-suc-le-zero h)
-passes-at f c (suc n) zero e h = rw (add-zero c) (left (f c) (passes f (suc c) n) e)
-passes-at f c (suc n) (suc k) e h =
-    rw (add-suc c k, ← suc-add c k) (passes-at f (suc c) n k (right (f c) (passes f (suc c) n) e) (le-of-suc-le-suc h))
-
 all-apart : (c : ℕ) → c < 256 → apart c ≡ true
-all-apart c h = rw (zero-add c) at (passes-at apart 0 256 c refl h)
+all-apart c h = at-byte apart refl c h
 
 or-false : (a : Bool) → (a || false) ≡ a
 or-false true = refl

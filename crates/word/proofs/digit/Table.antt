@@ -1,39 +1,32 @@
--- The table of values holds each byte's own, so what is read from it is what the definition says: for every function that has a
--- table or is lent one. Assumes nothing.
-use mathlib.Core.Path.{_≡_, _∙_, sym, ap, refl}
+-- The table of values has each byte's own entry, its value or 255 for none, and what such an entry says: for the functions that read
+-- it. Assumes nothing.
+use mathlib.Core.Path.{_≡_, sym, refl}
 use mathlib.Core.Bool.{Bool, true, false, _&&_}
-use mathlib.Core.List.{List}
 use mathlib.Core.Option.{Option, some, none}
-use Prim.Native.Nat.{ℕ, zero, suc, _+_, _-_, _<_, _≤_}
-use native.Mathlib.Nat.{add-zero, suc-add, add-suc, zero-add, le-of-suc-le-suc, not-suc-le-zero}
+use Prim.Native.Nat.{ℕ, _*_, _/_, _%_, _<_, _≤_}
 use native.Mathlib.Omega.{arith}
-use borrow.Author.Tests.{leb-true}
-use lib.Dec.{ltb, leb}
-use lib.ListN.{getD}
-use Rattle.word.specs.Digit.{among, digitValue, isDigit, below, entry, entriesFrom, digitTable}
+use borrow.Author.Tests.{eqb-true, leb-true}
+use lib.Dec.{eqb, ltb, leb}
+use Rattle.word.specs.Bits.{bits}
+use Rattle.word.specs.Digit.{among, digitValue, isDigit, below, entry, entriesFrom}
+use Rattle.word.proofs.digit.AllBytes.{at-byte}
 
-entry-at : (c n k : ℕ) → k < n → getD (entriesFrom c n) k 0 ≡ entry (digitValue (c + k))
-entry-at c zero k h = absurd (not-suc-le-zero h)
-entry-at c (suc n) zero h = ap (λ (x : ℕ). entry (digitValue x)) (sym (add-zero c))
-entry-at c (suc n) (suc k) h =
-    entry-at (suc c) n k (le-of-suc-le-suc h) ∙ ap (λ (x : ℕ). entry (digitValue x)) (suc-add c k ∙ sym (add-suc c k))
+-- what a byte's row of the table has at its place, which is its own entry
+abbrev pub inRow : ℕ → ℕ
+inRow c = bits (entriesFrom (8 * (c / 8)) 8) (c % 8 * 8) 8
+
+pub row-told : (c : ℕ) → c < 256 → inRow c ≡ entry (digitValue c)
+unfolding digitValue
+row-told c byte = eqb-true (inRow c) (entry (digitValue c)) (at-byte (λ (b : ℕ). eqb (inRow b) (entry (digitValue b))) refl c byte)
 
 entry-below : (v : Option ℕ) (radix : ℕ) → ltb (entry v) radix ≡ below v radix
 entry-below (some v) radix = refl
 entry-below none radix = refl
 
--- the table's rule, for all of its entries
-table-entry : (c : ℕ) → c < 256 → getD digitTable c 0 ≡ entry (digitValue c)
-unfolding digitTable
-table-entry c h = entry-at 0 256 c h ∙ ap (λ (x : ℕ). entry (digitValue x)) (zero-add c)
-
-pub table-holds : (c radix : ℕ) → c < 256 → ltb (getD digitTable c 0) radix ≡ isDigit c radix
+-- below the radix are the entries of its digits
+pub digit-told : (c radix : ℕ) → ltb (entry (digitValue c)) radix ≡ isDigit c radix
 unfolding isDigit
-table-holds c radix h = ap (λ (x : ℕ). ltb x radix) (table-entry c h) ∙ entry-below (digitValue c) radix
-
--- the same of a table that was lent
-pub lent-table : (table : List ℕ) (c radix : ℕ) → table ≡ digitTable → c < 256 → ltb (getD table c 0) radix ≡ isDigit c radix
-lent-table table c radix same h = ap (λ (t : List ℕ). ltb (getD t c 0) radix) same ∙ table-holds c radix h
+digit-told c radix = entry-below (digitValue c) radix
 
 -- a byte of a range stands not behind its last
 pub up-to : (first last c : ℕ) → among first last c ≡ true → c ≤ last
@@ -56,10 +49,8 @@ a-value : (v : Option ℕ) → (entry v ≡ 255 → ⊥) → some (entry v) ≡ 
 a-value (some v) h = refl
 a-value none h = absurd (h refl)
 
--- what an entry says
-module _ (c : ℕ) (byte : c < 256) where
-  pub none-told : getD digitTable c 0 ≡ 255 → none ≡ digitValue c
-  none-told e = sym (no-value c (sym (table-entry c byte) ∙ e))
+pub none-told : (c : ℕ) → entry (digitValue c) ≡ 255 → none ≡ digitValue c
+none-told c e = sym (no-value c e)
 
-  pub value-told : (getD digitTable c 0 ≡ 255 → ⊥) → some (getD digitTable c 0) ≡ digitValue c
-  value-told h = rw (table-entry c byte) (a-value (digitValue c) (λ e. h (table-entry c byte ∙ e)))
+pub value-told : (c : ℕ) → (entry (digitValue c) ≡ 255 → ⊥) → some (entry (digitValue c)) ≡ digitValue c
+value-told c h = a-value (digitValue c) h

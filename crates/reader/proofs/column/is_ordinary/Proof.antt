@@ -26,8 +26,8 @@ shared-slice-read-first-byte c = search needs
 shared-slice-read-last-byte : tie.Need-shared-slice-read-last-byte
 shared-slice-read-last-byte c = search needs
 
-char-is-digit-by-range-requires : tie.Need-char-is-digit-by-range-requires
-char-is-digit-by-range-requires c κs = search needs
+char-is-digit-by-table-requires : tie.Need-char-is-digit-by-table-requires
+char-is-digit-by-table-requires c κs = search needs
 
 returns-2 : tie.Need-returns-2
 returns-2 c o =
@@ -35,8 +35,8 @@ returns-2 c o =
     let l = d .before .before .before in
     let s = l .before .before in
     let a = s .args in
-    let held = and-eq-true-iff (d .char-is-digit-by-range .result) (not (eqb (getD (a .s .now) (a .end - 1) 0) (a .syntax .separator))) .0 o in
-    ordinary-cell (a .s .now) (a .start) (a .end) (s .pre .0) (s .pre .1) (a .syntax) (omega (arith, l .if1 .left)) (sym (d .char-is-digit-by-range .ensures) ∙ held .0) (eqb-false _ _ (not-true _ (held .1)))
+    let held = and-eq-true-iff (d .char-is-digit-by-table .result) (not (eqb (getD (a .s .now) (a .end - 1) 0) (a .syntax .separator))) .0 o in
+    ordinary-cell (a .s .now) (a .start) (a .end) (s .pre .0) (s .pre .1) (a .syntax) (omega (arith, l .if1 .left)) (sym (d .char-is-digit-by-table .ensures) ∙ held .0) (eqb-false _ _ (not-true _ (held .1)))
 
 pub is-ordinary-spec : {M : Type 1} → statement M
 is-ordinary-spec =
@@ -46,5 +46,5 @@ is-ordinary-spec =
     sub-last
     shared-slice-read-first-byte
     shared-slice-read-last-byte
-    char-is-digit-by-range-requires
+    char-is-digit-by-table-requires
     returns-2)

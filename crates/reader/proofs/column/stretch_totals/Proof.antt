@@ -35,8 +35,8 @@ count-pairs-requires-2 c κs = search needs
 shared-slice-read-first : tie.Need-shared-slice-read-first
 shared-slice-read-first c = search needs
 
-char-is-digit-by-range-requires : tie.Need-char-is-digit-by-range-requires
-char-is-digit-by-range-requires c κs = search needs
+char-is-digit-by-table-requires : tie.Need-char-is-digit-by-table-requires
+char-is-digit-by-table-requires c κs = search needs
 
 add-t13 : tie.Need-add-t13
 add-t13 c = search needs
@@ -49,7 +49,7 @@ returns-2 c =
     let a = p .before .before .before .args in
     let passes = rw (p .before .passing-pairs .ensures) at (p .count-pairs .ensures .0) in
     let counts = rw (b .before .digit-pairs .ensures) at (b .count-pairs2 .ensures .0) in
-    stretch-told (a .syntax) (a .s .now) (p .count-pairs .result) (b .count-pairs2 .result) (1 + b .count-pairs2 .result) true passes counts (omega arith) (sym (c .if2 .taken) ∙ d .char-is-digit-by-range .ensures) refl
+    stretch-told (a .syntax) (a .s .now) (p .count-pairs .result) (b .count-pairs2 .result) (1 + b .count-pairs2 .result) true passes counts (omega arith) (sym (c .if2 .taken) ∙ d .char-is-digit-by-table .ensures) refl
 
 returns-3 : tie.Need-returns-3
 returns-3 c =
@@ -59,7 +59,7 @@ returns-3 c =
     let a = p .before .before .before .args in
     let passes = rw (p .before .passing-pairs .ensures) at (p .count-pairs .ensures .0) in
     let counts = rw (b .before .digit-pairs .ensures) at (b .count-pairs2 .ensures .0) in
-    stretch-told (a .syntax) (a .s .now) (p .count-pairs .result) (b .count-pairs2 .result) (b .count-pairs2 .result) false passes counts (omega arith) (sym (c .if2 .left) ∙ d .char-is-digit-by-range .ensures) (omega arith)
+    stretch-told (a .syntax) (a .s .now) (p .count-pairs .result) (b .count-pairs2 .result) (b .count-pairs2 .result) false passes counts (omega arith) (sym (c .if2 .left) ∙ d .char-is-digit-by-table .ensures) (omega arith)
 
 pub stretch-totals-spec : {M : Type 1} → statement M
 stretch-totals-spec =
@@ -73,7 +73,7 @@ stretch-totals-spec =
     digit-pairs-requires
     count-pairs-requires-2
     shared-slice-read-first
-    char-is-digit-by-range-requires
+    char-is-digit-by-table-requires
     add-t13
     returns-2
     returns-3)

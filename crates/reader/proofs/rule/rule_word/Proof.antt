@@ -1,22 +1,11 @@
 -- `reader::rule::rule_word` meets its contract: each arm has the entry of its own cell, and the last is left for cell 31. Assumes nothing.
-use mathlib.Core.Path.{_≡_}
-use Prim.Native.Nat.{ℕ, zero, suc, _<_}
 use native.Mathlib.Omega.{arith}
-use borrow.Author.Needs.{needs}
 use Rattle.word.specs.Bits.{bit}
+use Rattle.word.proofs.Arms.{past}
 use Rattle.reader.specs.Rule.{ruleOf}
 use Rattle.reader.proofs.rule.Table.{every, everyCell, everyPair, isEntry, entry-holds}
 use Rattle.reader.proofs.rule.rule_word.Statement.{statement}
 use Rattle.reader.proofs.rule.rule_word.Tie as tie
-
--- k is none of the numbers up to n
-abbrev Past : ℕ → ℕ → Type 0
-Past zero k = Unit {0} × (k ≡ 0 → ⊥)
-Past (suc n) k = Past n k × (k ≡ suc n → ⊥)
-
-past : (n k : ℕ) → Past n k → n < k
-past zero k h = omega (arith, h .1)
-past (suc n) k h = omega (arith, past n k (h .0), h .1)
 
 pub rule-word-spec : {M : Type 1} → statement M
 unfolding every everyCell everyPair isEntry ruleOf bit

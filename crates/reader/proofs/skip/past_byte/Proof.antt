@@ -16,8 +16,8 @@ moved-requires c κs = search needs
 has-any-requires : tie.Need-has-any-requires
 has-any-requires c κs = search needs
 
-char-is-digit-by-range-requires : tie.Need-char-is-digit-by-range-requires
-char-is-digit-by-range-requires c κs = search needs
+char-is-digit-by-table-requires : tie.Need-char-is-digit-by-table-requires
+char-is-digit-by-table-requires c κs = search needs
 
 counted-requires : tie.Need-counted-requires
 unfolding movedTo
@@ -30,7 +30,7 @@ unfolding readingWith
 returns c =
     let d = c .before .before in
     let m = d .before .before in
-    rw (sym (d .char-is-digit-by-range .ensures), sym (d .before .has-any .ensures), c .before .if1 .taken)
+    rw (sym (d .char-is-digit-by-table .ensures), sym (d .before .has-any .ensures), c .before .if1 .taken)
     (c .counted .ensures ∙ rw (m .moved .ensures))
 
 returns-2 : tie.Need-returns-2
@@ -38,7 +38,7 @@ unfolding readingWith
 returns-2 c =
     let d = c .before in
     let m = d .before .before in
-    rw (sym (d .char-is-digit-by-range .ensures), sym (d .before .has-any .ensures), c .if1 .left)
+    rw (sym (d .char-is-digit-by-table .ensures), sym (d .before .has-any .ensures), c .if1 .left)
     (m .moved .ensures)
 
 pub past-byte-spec : {M : Type 1} → statement M
@@ -48,7 +48,7 @@ past-byte-spec =
     add-moved
     moved-requires
     has-any-requires
-    char-is-digit-by-range-requires
+    char-is-digit-by-table-requires
     counted-requires
     returns
     returns-2)
