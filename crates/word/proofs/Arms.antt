@@ -1,5 +1,5 @@
 -- The last arm of a `match` on a number: what is left where it is none of the numbers before. For the tables that stand as the arms of
--- one, `entry_of` here and `rule_word` in reader. Assumes nothing.
+-- one, `row_of` here and `rule_word` in reader. Assumes nothing.
 use mathlib.Core.Path.{_≡_}
 use Prim.Native.Nat.{ℕ, zero, suc, _<_}
 use native.Mathlib.Omega.{arith}
