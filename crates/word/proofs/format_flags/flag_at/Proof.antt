@@ -1,11 +1,9 @@
+-- `word::format_flags::flag_at` meets its contract: a flag is a field of one bit. Assumes nothing.
 use Rattle.word.specs.Bits.{bit}
 use Rattle.word.specs.Word.{flag, field}
 use borrow.Author.Needs.{needs}
 use Rattle.word.proofs.format_flags.flag_at.Statement.{statement}
 use Rattle.word.proofs.format_flags.flag_at.Tie as tie
-use Rattle.word.proofs.format_flags.flag_at.Reads as reads
-use Rattle.word.proofs.format_flags.flag_at.Lts as lts
-use Rattle.word.proofs.format_flags.low_bits.Reads as low-bits-reads
 
 low-bits-requires : tie.Need-low-bits-requires
 low-bits-requires c κs = search needs

@@ -1,11 +1,9 @@
+-- `word::format_flags::low_bits` meets its contract: the bits lie in the low half. Assumes nothing.
 use mathlib.Core.Path.{_∙_}
 use Rattle.word.proofs.format_flags.Halves.{low-half}
 use borrow.Author.Needs.{needs}
 use Rattle.word.proofs.format_flags.low_bits.Statement.{statement}
 use Rattle.word.proofs.format_flags.low_bits.Tie as tie
-use Rattle.word.proofs.format_flags.low_bits.Reads as reads
-use Rattle.word.proofs.format_flags.low_bits.Lts as lts
-use Rattle.word.proofs.format_flags.bits_at.Reads as bits-at-reads
 
 bits-at-requires : tie.Need-bits-at-requires
 bits-at-requires c κs = search needs
