@@ -1,7 +1,7 @@
 -- A digit told by the ranges of figures and letters, for `char_is_digit_by_range`: the distance of a byte from `0`, and of its small
 -- letter from `a`, both modulo 256, are below the number of figures or letters exactly where the definition says so. Assumes nothing.
 use mathlib.Core.Path.{_≡_, _∙_, refl, sym, ap}
-use mathlib.Core.Bool.{Bool, true, false, cond, _&&_, _||_}
+use mathlib.Core.Bool.{Bool, true, false, cond, _&&_, _||_, and-eq-true-iff}
 use Prim.Native.Nat.{ℕ, _+_, _-_, _%_, _<_, _≤_, min}
 use native.Mathlib.Omega.{arith}
 use borrow.Author.Tests.{lt-ltb, le-ltb, ltb-true, ltb-false, leb-true, eqb-true}
@@ -9,7 +9,7 @@ use mathlib.Core.Option.{some, none}
 use lib.Bits.{bitOr}
 use lib.Dec.{eqb, ltb, leb}
 use Rattle.word.specs.Digit.{among, digitValue, isDigit, below}
-use Rattle.word.proofs.digit.AllBytes.{left, right, at-byte}
+use Rattle.word.proofs.digit.AllBytes.{at-byte}
 use Rattle.word.proofs.digit.Table.{up-to}
 
 -- the two distances
@@ -68,27 +68,27 @@ module _ (c radix f l : ℕ) (byte : c < 256) (small : radix < 256) where
         → (ltb (figure c) (min radix 10) || ltb (letter c) (min (radix - 10) 26))
         ≡ below (cond (among 48 57 c) (some (c - 48)) (cond (among 65 90 c) (some (c - 65 + 10)) (cond (among 97 122 c) (some (c - 97 + 10)) none))) radix
     go true y z p q r e =
-        let w = rw p at e in
-        let same = eqb-true (figure c) (c - 48) (left (eqb (figure c) (c - 48)) (leb 26 (letter c)) w) in
-        let far = leb-true 26 (letter c) (right (eqb (figure c) (c - 48)) (leb 26 (letter c)) w) in
+        let both = and-eq-true-iff (eqb (figure c) (c - 48)) (leb 26 (letter c)) .0 (rw p at e) in
+        let same = eqb-true (figure c) (c - 48) (both .0) in
+        let far = leb-true 26 (letter c) (both .1) in
         let last = up-to 48 57 c p in
         rw p (figure-told radix (figure c) (letter c) (omega arith) far ∙ ap (λ (n : ℕ). ltb n radix) same)
     go false true z p q r e =
-        let w = rw (p, q) at e in
-        let far = leb-true 10 (figure c) (left (leb 10 (figure c)) (eqb (letter c) (c - 65)) w) in
-        let same = eqb-true (letter c) (c - 65) (right (leb 10 (figure c)) (eqb (letter c) (c - 65)) w) in
+        let both = and-eq-true-iff (leb 10 (figure c)) (eqb (letter c) (c - 65)) .0 (rw (p, q) at e) in
+        let far = leb-true 10 (figure c) (both .0) in
+        let same = eqb-true (letter c) (c - 65) (both .1) in
         let last = up-to 65 90 c q in
         rw (p, q) (letter-told radix (figure c) (letter c) far (omega arith) ∙ ap (λ (n : ℕ). ltb (n + 10) radix) same)
     go false false true p q r e =
-        let w = rw (p, q, r) at e in
-        let far = leb-true 10 (figure c) (left (leb 10 (figure c)) (eqb (letter c) (c - 97)) w) in
-        let same = eqb-true (letter c) (c - 97) (right (leb 10 (figure c)) (eqb (letter c) (c - 97)) w) in
+        let both = and-eq-true-iff (leb 10 (figure c)) (eqb (letter c) (c - 97)) .0 (rw (p, q, r) at e) in
+        let far = leb-true 10 (figure c) (both .0) in
+        let same = eqb-true (letter c) (c - 97) (both .1) in
         let last = up-to 97 122 c r in
         rw (p, q, r) (letter-told radix (figure c) (letter c) far (omega arith) ∙ ap (λ (n : ℕ). ltb (n + 10) radix) same)
     go false false false p q r e =
-        let w = rw (p, q, r) at e in
-        let far = leb-true 10 (figure c) (left (leb 10 (figure c)) (leb 26 (letter c)) w) in
-        let off = leb-true 26 (letter c) (right (leb 10 (figure c)) (leb 26 (letter c)) w) in
+        let both = and-eq-true-iff (leb 10 (figure c)) (leb 26 (letter c)) .0 (rw (p, q, r) at e) in
+        let far = leb-true 10 (figure c) (both .0) in
+        let off = leb-true 26 (letter c) (both .1) in
         rw (p, q, r) (other-told radix (figure c) (letter c) small far off)
 
 -- up to radix 10 the figures say all
