@@ -1,2 +1,2 @@
--- Fields of the word by its halves.
-mod Halves
+-- Fields of the word by its halves: for this room, and public for requests that read other fields.
+pub mod Halves
