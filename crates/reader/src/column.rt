@@ -246,7 +246,7 @@ fn own_count(reader: Reader, count: usize) -> usize
 // What one cell adds, byte by byte.
 fn cell_totals(s: &[u8], format: Format, syntax: Syntax, reader: Reader) -> Totals
     requires { ⌜ refusalWith (syntax .flags) (now s) (freshOf format) reader ≡ 0 ⌝ }
-    ensures report { λ r. ⌜ r ≡ cellTotals (readingWith syntax) format reader (now (s .entry)) ⌝ }
+    ensures totals { λ r. ⌜ r ≡ cellTotals (readingWith syntax) format reader (now (s .entry)) ⌝ }
     ensures fits { λ r. ⌜ (r .taken + r .passed ≤ length (now (s .entry))) × (r .digits ≤ length (now (s .entry))) ⌝ }
 {
     let counts = counts_digits(syntax.flags, reader);

@@ -19,7 +19,7 @@ use Rattle.reader.proofs.ByteTally.Peek.{peeks}
 use Rattle.reader.proofs.ByteTally.InsertedPeek.{withoutPassed, take-after-peek, read-after-peek, take-passes, read-passes, zeros-same, state-same, passed-adds, skip-clear}
 use Rattle.reader.proofs.ByteTally.Invariant.{Tallied}
 use Rattle.reader.proofs.ByteTally.Calls.{Answering, answering}
-use Rattle.reader.proofs.ByteTally.ZeroSkips.{count-agrees, report, agreed}
+use Rattle.reader.proofs.ByteTally.ZeroSkips.{count-agrees, answer-told, agreed}
 
 -- LISTS OF CALLS
 
@@ -62,7 +62,7 @@ module _ (m : Sheet → Reader → Reading) (s : List ℕ) (sheet : Sheet) where
         tallied = answer .tallied;
         cursor = omega (arith, answer .cursor, so-far .cursor);
         agree = (so-far .agree, λ r. count-agrees (m sheet) s (w .state) (w .history) r (agreed (m sheet) (w .history) (so-far .agree) r) call);
-        skips = (so-far .skips, report (m sheet) s (w .state) call);
+        skips = (so-far .skips, answer-told (m sheet) s (w .state) call);
         word = (so-far .word, answer .tallied .word);
       } in
       subst (λ (b : Answered). Kept (withAnswer w b)) (sym (own-word w so-far call)) kept

@@ -32,18 +32,18 @@ withoutPassed o = record { refusal = o .refusal; byte = o .byte; taken = o .take
 
 -- the calls after what was seen look at it alone
 module _ (m : Reading) (r : Reader) (o : Outcome) where
-  take-stilled : (b : Option ℕ) → takeByte m r (withoutPassed o) b ≡ withoutPassed (takeByte m r o b)
-  take-stilled none = refl
-  take-stilled (some b) = refl
+  take-without : (b : Option ℕ) → takeByte m r (withoutPassed o) b ≡ withoutPassed (takeByte m r o b)
+  take-without none = refl
+  take-without (some b) = refl
 
   pub take-passed : (b : Option ℕ) → takeByte m r o b .passed ≡ o .passed
   take-passed none = refl
   take-passed (some b) = refl
 
 module _ (wanted : ℕ → Bool) (o : Outcome) where
-  read-stilled : (b : Option ℕ) → readByteIf wanted (withoutPassed o) b ≡ withoutPassed (readByteIf wanted o b)
-  read-stilled none = refl
-  read-stilled (some b) = go (wanted b) refl where
+  read-without : (b : Option ℕ) → readByteIf wanted (withoutPassed o) b ≡ withoutPassed (readByteIf wanted o b)
+  read-without none = refl
+  read-without (some b) = go (wanted b) refl where
     go : (t : Bool) → wanted b ≡ t → readByteIf wanted (withoutPassed o) (some b) ≡ withoutPassed (readByteIf wanted o (some b))
     go true e = rw e
     go false e = rw e
@@ -55,9 +55,9 @@ module _ (wanted : ℕ → Bool) (o : Outcome) where
     go true e = rw e
     go false e = rw e
 
-raised-stilled : (r : Reader) (o : Outcome) (b : Option ℕ) → raised r (withoutPassed o) b ≡ withoutPassed (raised r o b)
-raised-stilled r o none = refl
-raised-stilled r o (some b) = refl
+raised-without : (r : Reader) (o : Outcome) (b : Option ℕ) → raised r (withoutPassed o) b ≡ withoutPassed (raised r o b)
+raised-without r o none = refl
+raised-without r o (some b) = refl
 
 pub raised-passed : (r : Reader) (o : Outcome) (b : Option ℕ) → raised r o b .passed ≡ o .passed
 raised-passed r o none = refl
@@ -109,18 +109,18 @@ module _ (m : Reading) (law : Settles m) (s : List ℕ) (st : State) (r : Reader
   pub take-after-peek : nextOf m s (peekOf m s st r .state) r ≡ withoutPassed (nextOf m s st r)
   unfolding nextOf
   take-after-peek =
-      ap (λ (o : Outcome). takeByte m r o (o .byte)) peek-twice ∙ take-stilled m r (peekOf m s st r) (peekOf m s st r .byte)
+      ap (λ (o : Outcome). takeByte m r o (o .byte)) peek-twice ∙ take-without m r (peekOf m s st r) (peekOf m s st r .byte)
 
   pub read-after-peek : (wanted : ℕ → Bool) → readIfOf m s (peekOf m s st r .state) r wanted ≡ withoutPassed (readIfOf m s st r wanted)
   unfolding readIfOf
   read-after-peek wanted =
-      ap (λ (o : Outcome). readByteIf wanted o (o .byte)) peek-twice ∙ read-stilled wanted (peekOf m s st r) (peekOf m s st r .byte)
+      ap (λ (o : Outcome). readByteIf wanted o (o .byte)) peek-twice ∙ read-without wanted (peekOf m s st r) (peekOf m s st r .byte)
 
   zero-after-peek : zeroReadOf m s r (peekOf m s st r .state) ≡ withoutPassed (zeroReadOf m s r st)
   unfolding zeroReadOf
   zero-after-peek =
       ap (λ (o : Outcome). raised r o (o .byte)) (read-after-peek isZero)
-      ∙ raised-stilled r (readIfOf m s st r isZero) (readIfOf m s st r isZero .byte)
+      ∙ raised-without r (readIfOf m s st r isZero) (readIfOf m s st r isZero .byte)
 
   pub take-passes : nextOf m s st r .passed ≡ peekOf m s st r .passed
   unfolding nextOf

@@ -56,11 +56,11 @@ module _ (m : Sheet → Reader → Reading) (s : List ℕ) (sheet : Sheet) (own 
     never-on [] w so-far never = never
     never-on (call ∷ rest) w so-far never =
         let here = so-far .tallied in
-        let report : (numberIn (answerBy (m sheet) s (w .state) call) ≡ 0) ⊎ (numberIn (answerBy (m sheet) s (w .state) call) ≡ 18)
+        let either : (numberIn (answerBy (m sheet) s (w .state) call) ≡ 0) ⊎ (numberIn (answerBy (m sheet) s (w .state) call) ≡ 18)
         = result-or-18 (m sheet) s (w .state) own (here .inside) (here .sums) call in
         let other : numberIn (answerTo m s (w .state) call) ≡ number → ⊥ =
         subst (λ (a : Answered). numberIn a ≡ number → ⊥) (sym (own-word m s sheet w so-far call))
-        (λ e. ⊎-elim (λ z. success (sym z ∙ e)) (λ z. special (sym z ∙ e)) report) in
+        (λ e. ⊎-elim (λ z. success (sym z ∙ e)) (λ z. special (sym z ∙ e)) either) in
         never-on rest (withAnswer w (answerTo m s (w .state) call)) (kept-on m s sheet w so-far call) (never, other)
 
     pub never-refused-by : (calls : List Call) → NeverRefusedBy number (traceFresh m s sheet calls .history)

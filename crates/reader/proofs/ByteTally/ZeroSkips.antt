@@ -183,12 +183,12 @@ module _ (m : Reader → Reading) (s : List ℕ) (st : State) (earlier : List An
   count-agrees (blockBy r n) = uncounted r
 
 module _ (m : Reader → Reading) where
-  pub report : (s : List ℕ) (st : State) (call : Call) → AnswerTold (answerBy m s st call)
-  report s st (peekBy r) = tt
-  report s st (takeBy r) = tt
-  report s st (readIfBy r wanted) = tt
-  report s st (zeroSkipBy r) = skip-told (m r) s st r
-  report s st (blockBy r n) = tt
+  pub answer-told : (s : List ℕ) (st : State) (call : Call) → AnswerTold (answerBy m s st call)
+  answer-told s st (peekBy r) = tt
+  answer-told s st (takeBy r) = tt
+  answer-told s st (readIfBy r wanted) = tt
+  answer-told s st (zeroSkipBy r) = skip-told (m r) s st r
+  answer-told s st (blockBy r n) = tt
 
   pub agreed : (history : List Answered) → CountsAgree m history → (r : Reader) → stepCount m r (stepsOf history) ≡ historyCount m r history
   agreed [] agree r = refl

@@ -1,5 +1,5 @@
--- Laws of the cells of a column: when a cell is ordinary, when a buffer is quick, and what a stretch and a cell add: for the functions of
--- src/column.rt. Assumes nothing.
+-- Laws of the cells of a column: when a cell is ordinary, when those of a buffer may be counted together (`Countable`), and what a
+-- stretch and a cell add: for the functions of src/column.rt. Assumes nothing.
 use mathlib.Core.Path.{_≡_, refl, ap}
 use mathlib.Core.Bool.{Bool, true, false, cond, not, _&&_, _||_, and-eq-true-iff}
 use mathlib.Core.List.{List, [], _∷_}
@@ -63,7 +63,7 @@ none-double x apart (b ∷ n ∷ l) unpaired zero h e f =
 none-double x apart (b ∷ n ∷ l) unpaired (suc i) h e f =
     none-double x apart (n ∷ l) (omega arith) i (omega arith) e (rw add-one (rw add-one at f))
 
--- the test by which the quick way is taken tells that the buffer is quick: runs are not passed, or it has none
+-- the test by which the quick way is taken tells that the buffer is countable: runs are not passed, or it has none
 pub quick-told : (x : Syntax) (r : Reader) (s : List ℕ) (filled : Bool) → isQuick x r s filled ≡ true → Countable x r s
 unfolding isQuick
 quick-told x r s filled q =
@@ -127,7 +127,7 @@ pub cell-told :
     (m : Reading) (s : List ℕ) (f : Format) (r : Reader) (run : TakeSums) (digits : ℕ)
     → sumsOutcome (freshOf f) r run ≡ nextAllOf m s (freshOf f) r → digits ≡ ownCount r (run .count)
     → _≡_ {A = Totals} (record { taken = run .at - run .passed; passed = run .passed; digits = digits }) (cellTotals m f r s)
-cell-told m s f r run digits report own =
+cell-told m s f r run digits takes own =
     let whole : run .at - 0 ≡ run .at = omega arith in
-    let known : totalsOf r (sumsOutcome (freshOf f) r run) ≡ cellTotals m f r s = ap (totalsOf r) report in
+    let known : totalsOf r (sumsOutcome (freshOf f) r run) ≡ cellTotals m f r s = ap (totalsOf r) takes in
     rw own (rw (whole, given-count (movedTo (freshOf f) (run .at)) r (run .count)) at known)

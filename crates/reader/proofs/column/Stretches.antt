@@ -21,7 +21,7 @@ use Rattle.reader.specs.Place.{isSeparator}
 use Rattle.reader.specs.Reading.{Reading, readingWith}
 use Rattle.reader.specs.State.{freshOf}
 use Rattle.reader.specs.Calls.{refusalWith}
-use Rattle.reader.specs.Code.Pairs.{hitsBefore, pairsOf}
+use Rattle.reader.specs.Code.Pairs.{matchesBefore, pairsOf}
 use Rattle.reader.specs.Column.{partFrom, boundOf, noTotals, addTotals, cellTotals, columnFrom}
 use Rattle.reader.specs.Code.OrdinaryCells.{Countable, Ordinary, Stretch, passing, digitsOf, ordinaryTotals}
 use Rattle.reader.proofs.passing.Places.{is-separator}
@@ -36,9 +36,9 @@ parts-join s start mid end h k =
     let there : start + (mid - start) ≡ mid = omega arith in
     rw (joint, take-add (mid - start) (end - mid) (drop start s), drop-drop (mid - start) start s, there)
 
--- what is quick in a buffer is quick in a part of it
-pub quick-part : (x : Syntax) (r : Reader) (s : List ℕ) (start end : ℕ) → start ≤ end → end ≤ length s → Countable x r s → Countable x r (partFrom s start end)
-quick-part x r s start end h k q =
+-- what is countable in a buffer is countable in a part of it
+pub countable-part : (x : Syntax) (r : Reader) (s : List ℕ) (start end : ℕ) → start ≤ end → end ≤ length s → Countable x r s → Countable x r (partFrom s start end)
+countable-part x r s start end h k q =
     record {
       counts = q .counts;
       positive = q .positive;
@@ -68,7 +68,7 @@ pairs-join x (d ∷ []) b plain positive = rw (alone b) where
   differ : d ≡ x .separator → ⊥
   differ e = let z : _≡_ {A = ℕ} 0 1 = let w = sym other ∙ is-separator (x .separator) d positive e in cc in omega arith
 
-  alone : (l : List ℕ) → hitsBefore (passing x) d l ≡ false
+  alone : (l : List ℕ) → matchesBefore (passing x) d l ≡ false
   alone [] = refl
   alone (n ∷ l) = rw (ne-eqb d (x .separator) differ)
 pairs-join x (d ∷ n ∷ a) b plain positive =
@@ -110,7 +110,7 @@ ordinary-cell : (x : Syntax) (r : Reader) (s : List ℕ) (f : Format) (start end
     → cellTotals (readingWith x) f r (partFrom s start end) ≡ ordinaryTotals x (partFrom s start end)
 unfolding readingWith
 ordinary-cell x r s f start end h k q ordinary clear =
-    ordinary-told x r (partFrom s start end) (quick-part x r s start end h k q) f ordinary (refused-alike x s (partFrom s start end) f r clear)
+    ordinary-told x r (partFrom s start end) (countable-part x r s start end h k q) f ordinary (refused-alike x s (partFrom s start end) f r clear)
 
 -- the next cell of a column, and the rest
 pub column-at : (m : Reading) (f : Format) (r : Reader) (s ends : List ℕ) (k at : ℕ) → k < length ends
@@ -126,7 +126,7 @@ pub record Walked (x : Syntax) (s ends : List ℕ) (quick : Bool) (cell start k 
   pub ordered : start ≤ at
   pub inside : at ≤ length s
   pub plain : start < at → isSeparator (x .separator) (getD s (at - 1) 0) ≡ false
-  pub report :
+  pub totals :
       (r : Reader) (f : Format) → (quick ≡ true → Countable x r s) → refusalWith (x .flags) s (freshOf f) r ≡ 0
       → columnFrom (readingWith x) f r s start (drop cell ends)
       ≡ addTotals (ordinaryTotals x (partFrom s start at)) (columnFrom (readingWith x) f r s at (drop k ends))
@@ -140,7 +140,7 @@ module _ (x : Syntax) (s ends : List ℕ) (quick : Bool) (cell start : ℕ) wher
         ordered = omega arith;
         inside = l;
         plain = λ p. absurd (omega arith);
-        report = λ r f q clear. nothing-yet (columnFrom (readingWith x) f r s start (drop cell ends));
+        totals = λ r f q clear. nothing-yet (columnFrom (readingWith x) f r s start (drop cell ends));
       } where
         nothing-yet : (c : Totals) → c ≡ addTotals (ordinaryTotals x (partFrom s start start)) c
         nothing-yet c =
@@ -158,7 +158,7 @@ module _ (x : Syntax) (s ends : List ℕ) (quick : Bool) (cell start : ℕ) wher
         ordered = omega (arith, here .ordered);
         inside = within;
         plain = plain-end ordered within;
-        report = told-on ordered within;
+        totals = totals-on ordered within;
       } where
         last-of-part : (ordered : at ≤ end) (within : end ≤ length s) → at < end → isSeparator (x .separator) (getD s (end - 1) 0) ≡ false
         last-of-part ordered within p =
@@ -179,18 +179,18 @@ module _ (x : Syntax) (s ends : List ℕ) (quick : Bool) (cell start : ℕ) wher
             let place : start + (length (partFrom s start at) - 1) ≡ at - 1 = omega (arith, here .ordered) in
             rw (part-byte s start at (here .ordered) (here .inside) (length (partFrom s start at) - 1) (omega arith), place) (here .plain (omega arith))
 
-        told-on : (ordered : at ≤ end) (within : end ≤ length s) (r : Reader) (f : Format) → (quick ≡ true → Countable x r s) → refusalWith (x .flags) s (freshOf f) r ≡ 0
+        totals-on : (ordered : at ≤ end) (within : end ≤ length s) (r : Reader) (f : Format) → (quick ≡ true → Countable x r s) → refusalWith (x .flags) s (freshOf f) r ≡ 0
             → columnFrom (readingWith x) f r s start (drop cell ends)
             ≡ addTotals (ordinaryTotals x (partFrom s start end)) (columnFrom (readingWith x) f r s end (drop (k + 1) ends))
-        told-on ordered within r f quick-so clear =
-            let q = quick-so so in
+        totals-on ordered within r f countable clear =
+            let q = countable so in
             let one = ordinary-cell x r s f at end ordered within q ordinary clear in
             let rest = columnFrom (readingWith x) f r s end (drop (k + 1) ends) in
             let split : columnFrom (readingWith x) f r s at (drop k ends) ≡ addTotals (ordinaryTotals x (partFrom s at end)) rest =
             column-at (readingWith x) f r s ends k at more
             ∙ ap (λ (e : ℕ). addTotals (cellTotals (readingWith x) f r (partFrom s at e)) (columnFrom (readingWith x) f r s e (drop (k + 1) ends))) (sym bound)
             ∙ ap (λ (t : Totals). addTotals t rest) one in
-            here .report r f quick-so clear
+            here .totals r f countable clear
             ∙ ap (addTotals (ordinaryTotals x (partFrom s start at))) split
             ∙ add-totals-assoc (ordinaryTotals x (partFrom s start at)) (ordinaryTotals x (partFrom s at end)) rest
             ∙ ap (λ (t : Totals). addTotals t rest)
@@ -200,11 +200,11 @@ module _ (x : Syntax) (s ends : List ℕ) (quick : Bool) (cell start : ℕ) wher
   -- where the walk stops, the stretch is told
   pub walk-ends : (r : Reader) → (quick ≡ true → Countable x r s) → (k at : ℕ) → Walked x s ends quick cell start k at
       → Stretch x r s ends cell start (record { cell = k; at = at })
-  walk-ends r quick-so k at here =
+  walk-ends r countable k at here =
       record {
         onward = here .onward;
         cells = here .cells;
         ordered = here .ordered;
         inside = here .inside;
-        report = λ f clear. here .report r f quick-so clear;
+        totals = λ f clear. here .totals r f countable clear;
       }

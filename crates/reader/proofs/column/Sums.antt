@@ -30,7 +30,7 @@ pub record Summed (x : Syntax) (f : Format) (r : Reader) (s ends : List ℕ) (su
   pub inside : at ≤ length s
   pub size : sums .taken + sums .passed ≤ at
   pub digits : sums .digits ≤ at
-  pub report : columnFrom (readingWith x) f r s 0 ends ≡ addTotals sums (columnFrom (readingWith x) f r s at (drop cell ends))
+  pub totals : columnFrom (readingWith x) f r s 0 ends ≡ addTotals sums (columnFrom (readingWith x) f r s at (drop cell ends))
 
 module _ (x : Syntax) (f : Format) (r : Reader) (s ends : List ℕ) where
   pub sums-start : Summed x f r s ends noTotals 0 0
@@ -41,7 +41,7 @@ module _ (x : Syntax) (f : Format) (r : Reader) (s ends : List ℕ) where
         inside = omega arith;
         size = omega arith;
         digits = omega arith;
-        report = same-totals c (addTotals noTotals c) (omega arith) (omega arith) (omega arith);
+        totals = same-totals c (addTotals noTotals c) (omega arith) (omega arith) (omega arith);
       }
 
   module _ (sums : Totals) (cell at : ℕ) (here : Summed x f r s ends sums cell at) where
@@ -56,9 +56,9 @@ module _ (x : Syntax) (f : Format) (r : Reader) (s ends : List ℕ) where
           inside = stretch .inside;
           size = omega (arith, here .size, size .0, long, stretch .ordered);
           digits = omega (arith, here .digits, size .1, long, stretch .ordered);
-          report =
-              here .report
-              ∙ ap (addTotals sums) (stretch .report f clear)
+          totals =
+              here .totals
+              ∙ ap (addTotals sums) (stretch .totals f clear)
               ∙ add-totals-assoc sums (ordinaryTotals x (partFrom s at (to .at))) (columnFrom (readingWith x) f r s (to .at) (drop (to .cell) ends));
         }
 
@@ -77,8 +77,8 @@ module _ (x : Syntax) (f : Format) (r : Reader) (s ends : List ℕ) where
           inside = within;
           size = omega (arith, here .size);
           digits = omega (arith, here .digits);
-          report =
-              here .report
+          totals =
+              here .totals
               ∙ ap (addTotals sums)
               (column-at (readingWith x) f r s ends cell at more
               ∙ ap (λ (e : ℕ). addTotals (cellTotals (readingWith x) f r (partFrom s at e)) (columnFrom (readingWith x) f r s e (drop (cell + 1) ends))) (sym bound)
@@ -91,14 +91,14 @@ module _ (x : Syntax) (f : Format) (r : Reader) (s ends : List ℕ) where
     unfolding columnFrom
     sums-end out =
         let over : drop cell ends ≡ [] = drop-of-length-le ends out in
-        sym (here .report ∙ rw over (same-totals (addTotals sums noTotals) sums (omega arith) (omega arith) (omega arith)))
+        sym (here .totals ∙ rw over (same-totals (addTotals sums noTotals) sums (omega arith) (omega arith) (omega arith)))
 
 -- the call's outcome: the sums, or its refusal
 module _ (m : Reading) (f : Format) (r : Reader) (s ends : List ℕ) where
   pub column-read : (t : Totals) → refusalWith (m .flags) s (freshOf f) r ≡ 0 → t ≡ columnFrom m f r s 0 ends
       → _≡_ {A = ColumnOutcome} (record { refusal = 0; totals = t }) (columnOf m f r s ends)
   unfolding columnOf
-  column-read t clear report = rw (clear, report)
+  column-read t clear sums = rw (clear, sums)
 
   pub column-refused : (e : Refusal) → numberOf e ≡ refusalWith (m .flags) s (freshOf f) r
       → _≡_ {A = ColumnOutcome} (record { refusal = numberOf e; totals = noTotals }) (columnOf m f r s ends)

@@ -42,8 +42,8 @@ pub record PlainZero (x : Syntax) (s : List ℕ) (at : ℕ) : Type 0 where
   pub zero : zeroAt s at ≡ true
   pub stays : (isFirst : Bool) → at ≡ landingOf x s isFirst at
 
-pub plain-zero : (x : Syntax) (s : List ℕ) (at : ℕ) (report : Bool) → report ≡ zeroAt s at → (not (eqb (x .separator) 48) && report) ≡ true → PlainZero x s at
-plain-zero x s at report e t = go (eqb (x .separator) 48) refl where
+pub plain-zero : (x : Syntax) (s : List ℕ) (at : ℕ) (found : Bool) → found ≡ zeroAt s at → (not (eqb (x .separator) 48) && found) ≡ true → PlainZero x s at
+plain-zero x s at found e t = go (eqb (x .separator) 48) refl where
   go : (u : Bool) → eqb (x .separator) 48 ≡ u → PlainZero x s at
   go true p = absurd (contradicts (rw p at t))
   go false p =

@@ -46,8 +46,8 @@ pub asked-behind :
     → may ≡ bit w (codeOf next)
     → may ≡ ruleOf (x .flags) false (previous (readingWith x) s at) (following (readingWith x) s at)
 unfolding readingWith
-asked-behind x s at w place next may entry known stands report =
-    report
+asked-behind x s at w place next may entry known stands asked =
+    asked
     ∙ entry (previous (readingWith x) s at) next
     ∙ ap (ruleOf (x .flags) false (previous (readingWith x) s at)) (known ∙ ap (neighbourOf (readingWith x)) stands)
 

@@ -68,7 +68,7 @@ fillsOf s [] = false
 fillsOf s (end ∷ []) = leb (length s) end
 fillsOf s (end ∷ next ∷ ends) = fillsOf s (next ∷ ends)
 
--- Which way is taken: the quick one where the buffer is `Quick`, and with the consecutive flag only where the cells fill it.
+-- Which way is taken: the quick one where the buffer is `Countable`, and with the consecutive flag only where the cells fill it.
 abbrev pub isServed : Syntax → Reader → Bool
 isServed x r = ((hasAnyFlag (x .flags) && isCounted r) && not (eqb (x .separator) 0)) && not (isDigit (x .separator) (x .radix))
 
@@ -95,7 +95,7 @@ pub record Stretch (x : Syntax) (r : Reader) (s ends : List ℕ) (k start : ℕ)
   pub cells : to .cell ≤ length ends
   pub ordered : start ≤ to .at
   pub inside : to .at ≤ length s
-  pub report :
+  pub totals :
       (f : Format) → refusalWith (x .flags) s (freshOf f) r ≡ 0
       → columnFrom (readingWith x) f r s start (drop k ends)
       ≡ addTotals (ordinaryTotals x (partFrom s start (to .at))) (columnFrom (readingWith x) f r s (to .at) (drop (to .cell) ends))

@@ -1,4 +1,4 @@
--- Counts over bytes and the byte behind each, by which a column of ordinary cells is told at once (specs/Column.antt). Assumes nothing.
+-- Counts over bytes and the byte behind each, by which ordinary cells of a column are told at once (OrdinaryCells, src/pairs.rt). Assumes nothing.
 use Prim.Native.Nat.{ℕ, _+_}
 use mathlib.Core.Bool.{Bool, false, cond, _&&_, _||_}
 use mathlib.Core.List.{List, [], _∷_}
@@ -12,11 +12,11 @@ matchesOf p b n =
     (p .any || eqb b (p .separator))
     && cond (isDigit n (p .radix)) (p .digits) (cond (eqb n (p .separator)) (p .separators) (p .others))
 
-abbrev pub hitsBefore : Pairs → ℕ → List ℕ → Bool
-hitsBefore p b [] = false
-hitsBefore p b (n ∷ rest) = matchesOf p b n
+abbrev pub matchesBefore : Pairs → ℕ → List ℕ → Bool
+matchesBefore p b [] = false
+matchesBefore p b (n ∷ rest) = matchesOf p b n
 
 -- how many of a list's bytes count so with the byte behind them
 abbrev pub pairsOf : Pairs → List ℕ → ℕ
 pairsOf p [] = 0
-pairsOf p (b ∷ rest) = cond (hitsBefore p b rest) 1 0 + pairsOf p rest
+pairsOf p (b ∷ rest) = cond (matchesBefore p b rest) 1 0 + pairsOf p rest
