@@ -41,7 +41,7 @@ module _ (m : Reading) (s : List ℕ) (counts : Bool) where
   sums-end zero at count passed out = refl
   sums-end (suc n) at count passed out = rw (no-byte s (landsAt m s at count) out)
 
-  count-behind-fits : (b count : ℕ) → countBehind m counts b count ≤ count + 1
+  pub count-behind-fits : (b count : ℕ) → countBehind m counts b count ≤ count + 1
   count-behind-fits b count = go (counts && m .digit b) where
     go : (t : Bool) → cond t (count + 1) count ≤ count + 1
     go true = omega arith

@@ -25,7 +25,7 @@ use Rattle.reader.proofs.skip.LoopState.{Standing, standing-starts, sta
 use Rattle.reader.proofs.Repeats.{Repeating, repeating-starts, repeating-ends, repeating-goes-on}
 use Rattle.reader.proofs.skip.Takes.{next-takes-one}
 use Rattle.reader.proofs.passing.Places.{byte-here, no-byte}
-use Rattle.reader.proofs.skip.SumsLoop.{end-passes-none, sums-on, sums-end}
+use Rattle.reader.proofs.skip.SumsLoop.{end-passes-none, count-behind-fits, sums-on, sums-end}
 
 -- Where the reader counts (t), one more is counted; a count of the special reader changes nothing.
 counts-on : (st : State) (r : Reader) (at count : ℕ) (flagged digit : Bool)
@@ -99,12 +99,6 @@ module _ (m : Reading) (s : List ℕ) (r : Reader) (st : State) (clear : refusal
       state-on : takenFrom m r (getD s place 0) (stateAt st r place count) ≡ stateAt st r (place + 1) countOn
       state-on = rw (past-byte st r place count) (counts-on st r (place + 1) count (hasAnyFlag (m .flags)) (m .digit (getD s place 0)))
 
-      count-fits : countOn ≤ count + 1
-      count-fits = go ((hasAnyFlag (m .flags) && isCounted r) && m .digit (getD s place 0)) where
-        go : (t : Bool) → cond t (count + 1) count ≤ count + 1
-        go true = omega arith
-        go false = omega arith
-
       pub running-on : place < length s → Running m s r st (place + 1) countOn (passed + (place - at))
       running-on h =
           let b = getD s place 0 in
@@ -115,7 +109,7 @@ module _ (m : Reading) (s : List ℕ) (r : Reader) (st : State) (clear : refusal
           record {
             so-far = rw same at (rw state-on at (rw n at took));
             stands =
-                standing-on s r st at count (here .stands) place countOn (omega arith) h count-fits
+                standing-on s r st at count (here .stands) place countOn (omega arith) h (count-behind-fits m s (countsDigits (m .flags) r) b count)
                 (tells-count st r at count (m .digit b) (here .stands .counted) (place + 1) (hasAnyFlag (m .flags)));
             started = omega (arith, here .started, lands);
           }
