@@ -1,9 +1,10 @@
--- Demand 3 over any reading: from what one call does to the claim about a list of calls (../Demand3.antt has the theorem).
+-- Demand 3 over any reading, in the order in which to read: from what one call does to the claim about a list of calls. The theorem is
+-- in ../Demand3.antt, which cites Settling, AnyReading and Refusals; Demand1 cites Steps.
 pub mod Settling
-pub mod Peek
+mod Peek
 pub mod Steps
 mod Invariant
-pub mod Calls
+mod Calls
 mod InsertedPeek
 mod ZeroSkips
 pub mod AnyReading

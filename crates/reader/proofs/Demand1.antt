@@ -27,9 +27,9 @@ use Rattle.reader.specs.Plain.{PlainOutcome, plainPeekOf, plainTakeByte,
 use Rattle.reader.specs.Column.{columnOf}
 use Rattle.reader.specs.History.{Call, peekBy, takeBy, readIfBy, zeroSkipBy, blockBy, Answered, peekAnswered, takeAnswered, readAnswered, skipAnswered, blockAnswered, answerBy, answerTo, numberIn, takenIn, passedIn, returned, shownIn, partIn}
 use Rattle.reader.specs.RefusalKeeps.{PlaceFault, SpecialFault, OwnFault, Fault, ResultOrRefusal, CountRefusalKeeps, PlainRefusalKeeps, ColumnRefusalKeeps}
-use Rattle.reader.proofs.ByteTally.Peek.{turned-away}
+use Rattle.reader.proofs.state.Refusals.{turned-away}
 use Rattle.reader.proofs.iterator.ConditionalReads.{read-cases}
-use Rattle.reader.proofs.ByteTally.Calls.{skip-cases}
+use Rattle.reader.proofs.iterator.Zeros.{skip-cases}
 use Rattle.reader.proofs.Repeats.{repeated-stops}
 use Rattle.reader.proofs.ByteTally.Steps.{moves-clear, take-step}
 

@@ -1,37 +1,19 @@
 -- Every call of demand 3 keeps the byte tally, over any reading: one law for each call, and one for them all. Assumes nothing.
-use mathlib.Core.Path.{_≡_, _∙_, refl, sym, ap}
-use mathlib.Core.Bool.{Bool, true, false, cond}
-use mathlib.Core.List.{List, [], _∷_}
-use mathlib.Core.Option.{Option, some, none}
-use Prim.Native.Nat.{ℕ, _+_, _≤_}
+use mathlib.Core.Path.{_≡_, refl}
+use mathlib.Core.List.{List, _∷_}
+use Prim.Native.Nat.{ℕ, _+_}
 use native.Mathlib.Omega.{arith}
-use lib.Dec.{eqb}
 use lib.ListN.{length}
 use Rattle.reader.specs.declared.state.Reader.{Reader}
 use Rattle.reader.specs.declared.state.State.{State}
 use Rattle.reader.specs.Reading.{Reading}
 use Rattle.reader.specs.State.{Sheet}
-use Rattle.reader.specs.Answer.{Outcome, SkipOutcome}
-use Rattle.reader.specs.Calls.{peekOf, nextOf, readIfOf}
-use Rattle.reader.specs.Repeat.{untilNone, repeated}
-use Rattle.reader.specs.ZeroSkip.{zeroReadOf, zeroReadsOf, skipRefusal, skipped, refusedSkip, skipZerosOf}
-use Rattle.reader.specs.Block.{takeNOf, takeNPart}
-use Rattle.reader.specs.History.{Call, peekBy, takeBy, readIfBy, zeroSkipBy, blockBy, Answered, skipAnswered, readsMade, answerBy, takenIn, passedIn, returned, aPeek, aTake, aRead, aBlock, Step, stepOf, withSteps}
+use Rattle.reader.specs.ZeroSkip.{zeroReadsOf, skipZerosOf}
+use Rattle.reader.specs.History.{Call, peekBy, takeBy, readIfBy, zeroSkipBy, blockBy, Answered, skipAnswered, readsMade, answerBy, takenIn, passedIn, returned, Step, withSteps}
+use Rattle.reader.proofs.iterator.Zeros.{skip-cases}
 use Rattle.reader.proofs.ByteTally.Peek.{peeks}
 use Rattle.reader.proofs.ByteTally.Steps.{Moves, peek-step, take-step, read-step, block-step, take-counts, read-counts, block-counts}
 use Rattle.reader.proofs.ByteTally.Invariant.{Tallied, tallied-on, skipping}
-
--- a zero skip makes its reads, or it is refused and makes none
-pub skip-cases :
-    (m : Reading) (s : List ℕ) (st : State) (r : Reader) (P : SkipOutcome → List Outcome → Type 0)
-    → (eqb (skipRefusal (m .flags) s st r) 0 ≡ true → P (skipped (repeated (length s) (zeroReadOf m s r) st)) (zeroReadsOf m s st r))
-    → (eqb (skipRefusal (m .flags) s st r) 0 ≡ false → P (refusedSkip (skipRefusal (m .flags) s st r) st) [])
-    → P (skipZerosOf m s st r) (readsMade m s st r)
-unfolding skipZerosOf
-skip-cases m s st r P reads refuses = go (eqb (skipRefusal (m .flags) s st r) 0) refl where
-  go : (t : Bool) → eqb (skipRefusal (m .flags) s st r) 0 ≡ t → P (skipZerosOf m s st r) (readsMade m s st r)
-  go true t = rw t (reads t)
-  go false t = rw (t, t) (refuses t)
 
 module _ (m : Reader → Reading) (s : List ℕ) (sheet : Sheet) (st : State) (steps : List Step) (so-far : Tallied m s sheet st steps) where
   -- what an answer leaves: the tally with its steps, and a cursor moved by its own counts

@@ -19,12 +19,12 @@ use Rattle.reader.specs.Answer.{Outcome, SkipOutcome}
 use Rattle.reader.specs.Calls.{refusalOf, refusalWith, refused, seenPast, peeked, peekOf, takeByte, nextOf, readByteIf, readIfOf}
 use Rattle.reader.specs.Repeat.{plus, summed, untilNone, repeated}
 use Rattle.reader.specs.ZeroSkip.{isZero, raised, zeroReadOf, skipRefusal, skipped, skipZerosOf}
-use Rattle.reader.proofs.state.Refusals.{within, skip-within, still-admitted, still-skipping, peek-admitted}
+use Rattle.reader.proofs.state.Refusals.{within, skip-within, still-admitted, still-skipping, peek-admitted, turned-away}
 use Rattle.reader.proofs.passing.Passed.{passed-fits}
 use Rattle.reader.proofs.iterator.Zeros.{skip-admitted}
 use Rattle.reader.proofs.ByteTally.Settling.{Settles, passes-no-more}
 use Rattle.reader.proofs.state.Updates.{count-moved}
-use Rattle.reader.proofs.ByteTally.Peek.{turned-away, peek-inside, peek-counts}
+use Rattle.reader.proofs.ByteTally.Peek.{peek-inside, peek-counts}
 
 -- the same outcome with nothing passed
 abbrev pub withoutPassed : Outcome → Outcome

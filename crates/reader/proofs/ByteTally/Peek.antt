@@ -16,7 +16,7 @@ use Rattle.reader.specs.Reading.{Reading, mayPass}
 use Rattle.reader.specs.State.{countOf, countSum, movedTo}
 use Rattle.reader.specs.Answer.{Outcome}
 use Rattle.reader.specs.Calls.{refusalOf, refused, peeked, peekOf}
-use Rattle.reader.proofs.state.Refusals.{peek-admitted}
+use Rattle.reader.proofs.state.Refusals.{peek-admitted, turned-away}
 use Rattle.reader.proofs.passing.Passed.{passed-fits, passes-only, passes-by-rule}
 
 -- how an outcome stands to the state it came from, where the call took nothing
@@ -55,15 +55,11 @@ module _ (m : Reading) (s : List ℕ) (st : State) (r : Reader) where
         none-taken = refl;
       }
 
-  pub turned-away : eqb (refusalOf m s st r) 0 ≡ false → peekOf m s st r ≡ refused (refusalOf m s st r) st
-  unfolding peekOf
-  turned-away t = rw t
-
   pub peeks : Peeks m s st r (peekOf m s st r)
   peeks = go (eqb (refusalOf m s st r) 0) refl where
     go : (t : Bool) → eqb (refusalOf m s st r) 0 ≡ t → Peeks m s st r (peekOf m s st r)
     go true t = rw (peek-admitted m s st r (eqb-true (refusalOf m s st r) 0 t)) peeked-peeks
-    go false t = rw (turned-away t) (refused-peeks m s st r (refusalOf m s st r))
+    go false t = rw (turned-away m s st r t) (refused-peeks m s st r (refusalOf m s st r))
 
   -- the cursor stays within the buffer, and the counts within the cursor
   pub peek-inside : st .cursor ≤ length s → peekOf m s st r .state .cursor ≤ length s

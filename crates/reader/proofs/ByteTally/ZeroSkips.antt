@@ -22,9 +22,8 @@ use Rattle.reader.specs.ByteTally.{CountsAgree, readsThatTook, takenByRe
 use Rattle.reader.proofs.passing.Places.{none-there}
 use Rattle.reader.proofs.state.Refusals.{skip-admits, peek-admitted}
 use Rattle.reader.proofs.iterator.ConditionalReads.{read-cases}
-use Rattle.reader.proofs.iterator.Zeros.{zero-takes-one}
+use Rattle.reader.proofs.iterator.Zeros.{zero-takes-one, skip-cases}
 use Rattle.reader.proofs.ByteTally.Steps.{moves-clear, zero-step, zero-counts}
-use Rattle.reader.proofs.ByteTally.Calls.{skip-cases}
 
 -- EACH READ
 

@@ -1,18 +1,21 @@
--- The zero skip, read by read: what a read of it takes, and what the skip answers once its refusals are tested, and that its
--- reads have come to their end. Assumes nothing.
+-- The zero skip, read by read: what a read of it takes, what the skip answers where it is refused and where it is not, and that its
+-- reads have come to their end: for this room, and for the two demands. Assumes nothing.
 use mathlib.Core.Path.{_≡_, _∙_, refl, sym, ap}
-use mathlib.Core.List.{List}
+use mathlib.Core.Bool.{Bool, true, false}
+use mathlib.Core.List.{List, []}
 use mathlib.Core.Option.{some, none}
 use Prim.Native.Nat.{ℕ, _+_}
+use lib.Dec.{eqb}
 use lib.ListN.{length}
 use Rattle.reader.specs.declared.state.Reader.{Reader}
 use Rattle.reader.specs.declared.state.State.{State}
 use Rattle.reader.specs.declared.state.Refusal.{Refusal}
 use Rattle.reader.specs.State.{movedTo}
 use Rattle.reader.specs.Reading.{Reading}
-use Rattle.reader.specs.Answer.{numberOf}
+use Rattle.reader.specs.Answer.{numberOf, Outcome, SkipOutcome}
 use Rattle.reader.specs.Repeat.{repeated}
-use Rattle.reader.specs.ZeroSkip.{skipRefusal, isZero, raised, zeroReadOf, skipped, refusedSkip, skipZerosOf}
+use Rattle.reader.specs.ZeroSkip.{skipRefusal, isZero, raised, zeroReadOf, zeroReadsOf, skipped, refusedSkip, skipZerosOf}
+use Rattle.reader.specs.History.{readsMade}
 use Rattle.reader.proofs.state.Refusals.{refusal-tells}
 use Rattle.reader.proofs.passing.Places.{none-there}
 use Rattle.reader.proofs.iterator.ConditionalReads.{read-cases}
@@ -39,6 +42,18 @@ module _ (m : Reading) (s : List ℕ) (st : State) (r : Reader) where
   pub skip-refused : (e : Refusal) → numberOf e ≡ skipRefusal (m .flags) s st r → refusedSkip (numberOf e) st ≡ skipZerosOf m s st r
   unfolding skipZerosOf
   skip-refused e number = rw (sym number, refusal-tells e)
+
+-- a zero skip makes its reads, or it is refused and makes none
+pub skip-cases :
+    (m : Reading) (s : List ℕ) (st : State) (r : Reader) (P : SkipOutcome → List Outcome → Type 0)
+    → (eqb (skipRefusal (m .flags) s st r) 0 ≡ true → P (skipped (repeated (length s) (zeroReadOf m s r) st)) (zeroReadsOf m s st r))
+    → (eqb (skipRefusal (m .flags) s st r) 0 ≡ false → P (refusedSkip (skipRefusal (m .flags) s st r) st) [])
+    → P (skipZerosOf m s st r) (readsMade m s st r)
+unfolding skipZerosOf
+skip-cases m s st r P reads refuses = go (eqb (skipRefusal (m .flags) s st r) 0) refl where
+  go : (t : Bool) → eqb (skipRefusal (m .flags) s st r) 0 ≡ t → P (skipZerosOf m s st r) (readsMade m s st r)
+  go true t = rw t (reads t)
+  go false t = rw (t, t) (refuses t)
 
 -- the reads of a zero skip have come to their end: the last one answers no byte
 pub zero-skip-ends : (m : Reading) (s : List ℕ) (st : State) (r : Reader) → repeated (length s) (zeroReadOf m s r) st .byte ≡ none

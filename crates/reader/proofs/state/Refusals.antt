@@ -17,7 +17,7 @@ use Rattle.reader.specs.State.{isCounted, countSum}
 use Rattle.word.specs.Check.{line, firstFailing}
 use Rattle.reader.specs.Reading.{Reading, isConsecutiveAlone}
 use Rattle.reader.specs.Answer.{numberOf}
-use Rattle.reader.specs.Calls.{line16, line17, line18, lineConsecutive, consecutiveNumber, placeRefusal, refusalWith, refused, peeked, peekOf}
+use Rattle.reader.specs.Calls.{line16, line17, line18, lineConsecutive, consecutiveNumber, placeRefusal, refusalWith, refusalOf, refused, peeked, peekOf}
 use Rattle.reader.specs.ZeroSkip.{skipRefusal}
 use Rattle.reader.specs.Block.{blockRefusal}
 
@@ -117,3 +117,7 @@ module _ (m : Reading) (s : List ℕ) (st : State) (r : Reader) where
   pub peek-refused : (e : Refusal) → numberOf e ≡ refusalWith (m .flags) s st r → peekOf m s st r ≡ refused (numberOf e) st
   unfolding peekOf
   peek-refused e number = rw (sym number, refusal-tells e)
+
+  pub turned-away : eqb (refusalOf m s st r) 0 ≡ false → peekOf m s st r ≡ refused (refusalOf m s st r) st
+  unfolding peekOf
+  turned-away t = rw t
