@@ -1,4 +1,5 @@
--- An outcome tells the answer, so a contract that gives the outcome gives the whole answer, its enum's case included. Assumes nothing.
+-- An outcome tells the answer, so a contract that gives the outcome gives the whole answer, its enum's case included.
+-- Theorems, used by no function. Assumes nothing.
 use mathlib.Core.Path.{_≡_, _∙_, refl, sym, ap}
 use mathlib.Core.Bool.{cond}
 use mathlib.Core.Option.{Option, some, none}

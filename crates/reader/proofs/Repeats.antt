@@ -1,5 +1,5 @@
--- A call made again until it answers no byte: how it goes on, and the invariant of a loop over it: for takes to the end and zero
--- skips. Assumes nothing.
+-- A call made again until it answers no byte: how it goes on, and the invariant of a loop over it: for takes to the end, zero
+-- skips, and their refusals. Assumes nothing.
 use mathlib.Core.Path.{_≡_, _∙_, sym, refl, ap}
 use mathlib.Core.List.{List}
 use mathlib.Core.Option.{Option, some, none}

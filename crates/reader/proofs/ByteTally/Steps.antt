@@ -1,4 +1,5 @@
--- Each call moves the state by its step of the history: over any reading, refused calls included. Assumes nothing.
+-- Each call moves the state by its step of the history: over any reading, refused calls included. Demand 1 of takes to the end goes by
+-- it too. Assumes nothing.
 use mathlib.Core.Path.{_≡_, _∙_, refl, sym}
 use mathlib.Core.Bool.{Bool, true, false, cond, _&&_}
 use mathlib.Core.List.{List, [], _∷_, head?}

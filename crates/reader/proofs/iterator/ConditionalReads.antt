@@ -1,5 +1,5 @@
 -- What a conditional read may answer, by cases; and that it asks its set only of bytes of the buffer, so that two sets that agree on
--- all bytes read alike. Assumes nothing.
+-- all bytes read alike: for this room and both demands. Assumes nothing.
 use mathlib.Core.Path.{_≡_, refl, _∙_, sym}
 use mathlib.Core.Bool.{Bool, true, false}
 use mathlib.Core.List.{List}

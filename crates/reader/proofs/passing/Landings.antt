@@ -1,5 +1,5 @@
 -- Laws of passing, a law for each way that the code returns: which neighbour it answers, and where a cursor lands: for the
--- functions of src/passing.rt and the loops. Assumes nothing.
+-- functions of src/passing.rt, the loops, and an ordinary cell of a column. Assumes nothing.
 use mathlib.Core.Path.{_≡_, _∙_, ap}
 use mathlib.Core.Bool.{Bool, true, false, cond, not}
 use mathlib.Core.List.{List, head?}

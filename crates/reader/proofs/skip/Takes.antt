@@ -1,4 +1,5 @@
--- Where a take leaves the cursor, takes from a refused state, and that takes to the end have come to their end. Assumes nothing.
+-- Where a take leaves the cursor, takes from a refused state, and that takes to the end have come to their end:
+-- for this room and the reads of a zero skip. Assumes nothing.
 use mathlib.Core.Path.{_≡_, _∙_, refl, sym, ap}
 use mathlib.Core.Bool.{Bool, true, false, cond, _&&_}
 use mathlib.Core.List.{List}

@@ -1,4 +1,5 @@
--- The reader that a number names, from what `reader_named` found: for every caller that is given a byte. Assumes nothing.
+-- The reader that a number names, from what `reader_named` found: for export and script, which
+-- are given a byte. Assumes nothing.
 use mathlib.Core.Path.{_≡_, _∙_, sym, ap}
 use mathlib.Core.Option.{some, none}
 use Prim.Native.Nat.{ℕ}
