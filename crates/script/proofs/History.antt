@@ -173,7 +173,7 @@ module _ (start start' : Start) (text text' buffer buffer' buffer'' out came pri
         = sym (append-assoc (take (turn .kept) buffer') piece rest) ∙ ap (λ (l : List ℕ). l ++ rest) (behind (turn .kept) (start' .filled) buffer' buffer'' (on .kept) (on .same)) in
         ap (λ (l : List ℕ). outputFrom l 0 (gathering [])) (append-assoc came piece rest)
         ∙ before (piece ++ rest) (no-more rest ends)
-        ∙ ap (λ (l : List ℕ). printed ++ l) (turns .report (piece ++ rest) (no-more rest ends))
+        ∙ ap (λ (l : List ℕ). printed ++ l) (turns .prints (piece ++ rest) (no-more rest ends))
         ∙ sym (append-assoc printed (take (turn .end) out) _)
         ∙ ap (λ (l : List ℕ). (printed ++ take (turn .end) out) ++ outputFrom l 0 (runIn text' (turn .stage))) join
         ∙ ap (λ (s : Stage). (printed ++ take (turn .end) out) ++ outputFrom (take (start' .filled) buffer'' ++ rest) 0 (runIn text' s)) (sym (on .stage))
@@ -202,7 +202,7 @@ over-prints (last {pieces = pieces} {lines = lines} {text' = text'} {buffer' = b
     let nothing : outputFrom (take (turn .kept) buffer' ++ unread) 0 (runIn text' (turn .stage)) ≡ []
     = over-leads (turn .next) _ _ _ _ _ over (turns .leads) unread ends ∙ stopped-prints-nothing unread 0 in
     joined-last lines (take (turn .end) out)
-    ∙ sym (history-prints h unread ends ∙ ap (λ (l : List ℕ). joined lines ++ l) (turns .report unread ends ∙ ap (λ (l : List ℕ). take (turn .end) out ++ l) nothing ∙ append-nil (take (turn .end) out)))
+    ∙ sym (history-prints h unread ends ∙ ap (λ (l : List ℕ). joined lines ++ l) (turns .prints unread ends ∙ ap (λ (l : List ℕ). take (turn .end) out ++ l) nothing ∙ append-nil (take (turn .end) out)))
 
 -- the same of a run whose input has ended
 pub ended-prints : {pieces lines : List (List ℕ)} {text out : List ℕ} {turn : Turn} → LastTurn pieces lines true text out turn → turn .next ≡ next.Over
@@ -214,18 +214,18 @@ pub ran-starts : (text buffer : List ℕ) (start : Start) → start ≡ firstSta
 ran-starts text buffer start e = rw e (omega arith, record { pieces = []; lines = []; history = begins; turns = refl })
 
 module _ {count : ℕ} {start : Start} {text text' buffer buffer' out : List ℕ} {turn : Turn} (ran : Ran count start text buffer)
-    (turns : Turns text buffer start text' buffer' out turn) (done : Bool) (buffer'' : List ℕ) (report : Status)
-    (follows : Follows done turn (start .ended) buffer' buffer'' report)
+    (turns : Turns text buffer start text' buffer' out turn) (done : Bool) (buffer'' : List ℕ) (answer : Status)
+    (follows : Follows done turn (start .ended) buffer' buffer'' answer)
   where
-    goes : (start' : Start) → report ≡ status.Running start' → Follows true turn (start .ended) buffer' buffer'' (status.Running start')
+    goes : (start' : Start) → answer ≡ status.Running start' → Follows true turn (start .ended) buffer' buffer'' (status.Running start')
     goes start' e = written done turn (start .ended) buffer' buffer'' start' (rw e at follows)
 
-    pub ran-within : (start' : Start) → report ≡ status.Running start' → length buffer'' ≡ length buffer' → start' .filled ≤ length buffer''
+    pub ran-within : (start' : Start) → answer ≡ status.Running start' → length buffer'' ≡ length buffer' → start' .filled ≤ length buffer''
     ran-within start' e size =
         let on = continues (turn .next) turn (start .ended) _ _ _ buffer' buffer'' start' (turns .leads) (goes start' e) in
         on .within (omega (arith, turns .kept, size))
 
-    pub ran-goes-on : {start' : Start} {count' : ℕ} → report ≡ status.Running start' → count' ≡ suc count → Ran count' start' text' buffer''
+    pub ran-goes-on : {start' : Start} {count' : ℕ} → answer ≡ status.Running start' → count' ≡ suc count → Ran count' start' text' buffer''
     ran-goes-on {start' = start'} e more =
         record {
           pieces = ran .pieces ++ (pieceBehind turn start' buffer'' ∷ []);
@@ -237,10 +237,10 @@ module _ {count : ℕ} {start : Start} {text text' buffer buffer' out : List ℕ
     ran-to : {how : Next → Type 0} → how (turn .next) → RanTo text' out how
     ran-to ends = record { pieces = ran .pieces; lines = _; ended = _; turn = turn; last = last (ran .history) turns; ends = ends }
 
-    pub ran-over : report ≡ status.Over → RanTo text' out (λ n. n ≡ next.Over)
+    pub ran-over : answer ≡ status.Over → RanTo text' out (λ n. n ≡ next.Over)
     ran-over e = ran-to (over-said done turn (start .ended) buffer' buffer'' (rw e at follows))
 
-    pub ran-unread : report ≡ status.CannotRead → RanTo text' out (λ n. n ≡ next.Read)
+    pub ran-unread : answer ≡ status.CannotRead → RanTo text' out (λ n. n ≡ next.Read)
     ran-unread e = ran-to (unread-said done turn (start .ended) buffer' buffer'' (rw e at follows))
 
     pub ran-unwritten : RanTo text' out (λ n. Unit {0})

@@ -27,4 +27,4 @@ longestLine = 1 + 4 * longestField + 1
 pub record Wrote (before : List ℕ) (at : ℕ) (bytes : List ℕ) (after : List ℕ) (end : ℕ) : Type 0 where
   pub size : length after ≡ length before
   pub place : end ≡ at + length bytes
-  pub report : take end after ≡ take at before ++ bytes
+  pub contents : take end after ≡ take at before ++ bytes

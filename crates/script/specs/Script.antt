@@ -32,7 +32,7 @@ outputOf input = outputFrom input 0 (gathering [])
 pub record Answers (text : List ℕ) (begun : Stage) (input : List ℕ) (ended : Bool) (text' out : List ℕ) (progress : Progress) : Type 0 where
   pub read : progress .used ≤ length input
   pub written : progress .end ≤ length out
-  pub report : (rest : List ℕ) → (ended ≡ true → rest ≡ [])
+  pub prints : (rest : List ℕ) → (ended ≡ true → rest ≡ [])
       → outputFrom (input ++ rest) 0 (runIn text begun)
       ≡ take (progress .end) out ++ outputFrom (drop (progress .used) input ++ rest) 0 (runIn text' (progress .stage))
 

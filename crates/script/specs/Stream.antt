@@ -44,7 +44,7 @@ Leads stage room ended kept run next.Read =
 pub record Turns (text buffer : List ℕ) (start : Start) (text' buffer' out : List ℕ) (turn : Turn) : Type 0 where
   pub kept : turn .kept ≤ length buffer'
   pub written : turn .end ≤ length out
-  pub report : Prints (start .ended) (take (start .filled) buffer) (runIn text (start .stage)) (take (turn .end) out)
+  pub prints : Prints (start .ended) (take (start .filled) buffer) (runIn text (start .stage)) (take (turn .end) out)
       (take (turn .kept) buffer') (runIn text' (turn .stage))
   pub leads : Leads (turn .stage) (length out - turn .end) (start .ended) (take (turn .kept) buffer') (runIn text' (turn .stage)) (turn .next)
 
@@ -58,10 +58,10 @@ arrivalOf (negsuc k) kept came = arrival.Failed
 arrivalOf (pos k) kept came = cond (eqb came 0) arrival.End (arrival.More (kept + came))
 
 -- A read behind the bytes that are kept, which stay. Its number is whatever the system answered: no contract says more of it.
-pub record Reads (kept : ℕ) (buffer buffer' : List ℕ) (report : Arrival) : Type 0 where
+pub record Reads (kept : ℕ) (buffer buffer' : List ℕ) (answer : Arrival) : Type 0 where
   pub same : take kept buffer' ≡ take kept buffer
   pub got : ℤ
-  pub tells : report ≡ arrivalOf got kept (clamped got (length buffer' - kept))
+  pub tells : answer ≡ arrivalOf got kept (clamped got (length buffer' - kept))
 
 -- A read of no bytes says that the input has ended only where there was room for some.
 abbrev pub RoomToRead : Turn → List ℕ → Type 0
@@ -77,20 +77,20 @@ afterRead turn arrival.Failed = status.CannotRead
 abbrev pub afterNoRead : Turn → Bool → Status
 afterNoRead turn ended = status.Running (record { stage = turn .stage; filled = turn .kept; ended = ended })
 
-pub record FollowsRead (turn : Turn) (buffer buffer' : List ℕ) (report : Status) : Type 0 where
+pub record FollowsRead (turn : Turn) (buffer buffer' : List ℕ) (answer : Status) : Type 0 where
   pub came : Arrival
   pub reads : Reads (turn .kept) buffer buffer' came
-  pub tells : report ≡ afterRead turn came
+  pub tells : answer ≡ afterRead turn came
 
 abbrev pub FollowsBy : Next → Turn → Bool → List ℕ → List ℕ → Status → Type 0
-FollowsBy next.Over turn ended buffer buffer' report = (buffer' ≡ buffer) × (report ≡ status.Over)
-FollowsBy next.Again turn ended buffer buffer' report = (buffer' ≡ buffer) × (report ≡ afterNoRead turn ended)
-FollowsBy next.Read turn ended buffer buffer' report = FollowsRead turn buffer buffer' report
+FollowsBy next.Over turn ended buffer buffer' answer = (buffer' ≡ buffer) × (answer ≡ status.Over)
+FollowsBy next.Again turn ended buffer buffer' answer = (buffer' ≡ buffer) × (answer ≡ afterNoRead turn ended)
+FollowsBy next.Read turn ended buffer buffer' answer = FollowsRead turn buffer buffer' answer
 
 -- How a run goes on behind a turn, whose lines were all written or not: only a turn that asks for a read is followed by one.
 abbrev pub Follows : Bool → Turn → Bool → List ℕ → List ℕ → Status → Type 0
-Follows false turn ended buffer buffer' report = (buffer' ≡ buffer) × (report ≡ status.CannotWrite)
-Follows true turn ended buffer buffer' report = FollowsBy (turn .next) turn ended buffer buffer' report
+Follows false turn ended buffer buffer' answer = (buffer' ≡ buffer) × (answer ≡ status.CannotWrite)
+Follows true turn ended buffer buffer' answer = FollowsBy (turn .next) turn ended buffer buffer' answer
 
 -- the bytes that came behind those that a turn kept
 abbrev pub pieceBehind : Turn → Start → List ℕ → List ℕ

@@ -70,7 +70,7 @@ pub(crate) fn answer(
     requires { ⌜ length (now text) ≡ mostText ⌝ }
     ensures kept { λ r. ⌜ (length (now (text .exit)) ≡ mostText) × (length (now (out .exit)) ≡ length (now (out .entry))) ⌝ }
     ensures far { λ r. ⌜ GoesAsFar (now (input .entry)) ended (length (now (out .exit))) r ⌝ }
-    ensures report { λ r. ⌜ Answers (now (text .entry)) begun (now (input .entry)) ended (now (text .exit)) (now (out .exit)) r ⌝ }
+    ensures answers { λ r. ⌜ Answers (now (text .entry)) begun (now (input .entry)) ended (now (text .exit)) (now (out .exit)) r ⌝ }
 {
     let mut stage = begun;
     let mut used = 0;

@@ -9,7 +9,7 @@ use crate::stream::Status;
 // Writes the message to a buffer's start, and answers how long it is: nothing for a run that is over.
 pub(crate) fn message(status: Status, out: &mut [u8]) -> usize
     requires { ⌜ longestMessage ≤ length (now out) ⌝ }
-    ensures report { λ r. ⌜ Wrote (now (out .entry)) 0 (messageOf status) (now (out .exit)) r ⌝ }
+    ensures wrote { λ r. ⌜ Wrote (now (out .entry)) 0 (messageOf status) (now (out .exit)) r ⌝ }
     ensures within { λ r. ⌜ r ≤ length (now (out .exit)) ⌝ }
 {
     match status {

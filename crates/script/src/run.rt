@@ -56,7 +56,7 @@ fn stop(refusal: Refusal, out: &mut [u8], at: usize) -> Response
 fn add_text(text: &mut [u8], n: usize, b: u8, out: &mut [u8], at: usize) -> Response
     requires { ⌜ (length (now text) ≡ mostText) × (at + longestLine ≤ length (now out)) ⌝ }
     ensures kept { λ r. ⌜ length (now (text .exit)) ≡ mostText ⌝ }
-    ensures report { λ r. ⌜ Responds (addText (take n (now (text .entry))) b) (now (text .exit)) (now (out .entry)) at (now (out .exit)) r ⌝ }
+    ensures responds { λ r. ⌜ Responds (addText (take n (now (text .entry))) b) (now (text .exit)) (now (out .entry)) at (now (out .exit)) r ⌝ }
 {
     if n < MOST_TEXT {
         text[n] = b;
@@ -103,7 +103,7 @@ fn gathering_response(
 ) -> Response
     requires { ⌜ (length (now text) ≡ mostText) × (at + longestLine ≤ length (now out)) ⌝ }
     ensures kept { λ r. ⌜ length (now (text .exit)) ≡ mostText ⌝ }
-    ensures report { λ r. ⌜ Responds (gatheringResponse (take n (now (text .entry))) asked) (now (text .exit)) (now (out .entry)) at (now (out .exit)) r ⌝ }
+    ensures responds { λ r. ⌜ Responds (gatheringResponse (take n (now (text .entry))) asked) (now (text .exit)) (now (out .entry)) at (now (out .exit)) r ⌝ }
 {
     match asked {
         Record::Unknown => stop(Refusal::Unknown, out, at),
@@ -183,7 +183,7 @@ pub(crate) fn respond(
 ) -> Response
     requires { ⌜ (length (now text) ≡ mostText) × (at + longestLine ≤ length (now out)) ⌝ }
     ensures kept { λ r. ⌜ length (now (text .exit)) ≡ mostText ⌝ }
-    ensures report { λ r. ⌜ Responds (respond· (runIn (now (text .entry)) stage) asked) (now (text .exit)) (now (out .entry)) at (now (out .exit)) r ⌝ }
+    ensures responds { λ r. ⌜ Responds (respond· (runIn (now (text .entry)) stage) asked) (now (text .exit)) (now (out .entry)) at (now (out .exit)) r ⌝ }
 {
     match stage {
         Stage::Gathering(n) => gathering_response(text, n, asked, out, at),

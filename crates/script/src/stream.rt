@@ -64,7 +64,7 @@ pub fn first() -> Start
 fn keep_tail(buffer: &mut [u8], from: usize, end: usize) -> usize
     requires { ⌜ (from ≤ end) × (end ≤ length (now buffer)) ⌝ }
     ensures kept { λ r. ⌜ (r ≡ end - from) × (length (now (buffer .exit)) ≡ length (now (buffer .entry))) ⌝ }
-    ensures report { λ r. ⌜ take r (now (buffer .exit)) ≡ take r (drop from (now (buffer .entry))) ⌝ }
+    ensures bytes { λ r. ⌜ take r (now (buffer .exit)) ≡ take r (drop from (now (buffer .entry))) ⌝ }
 {
     let mut i = 0;
     while from + i < end {
@@ -92,7 +92,7 @@ fn next_of(stage: Stage, room: usize, ended: bool) -> Next
 pub(crate) fn take_turn(text: &mut [u8], start: Start, buffer: &mut [u8], out: &mut [u8]) -> Turn
     requires { ⌜ (length (now text) ≡ mostText) × (start .filled ≤ length (now buffer)) ⌝ }
     ensures text { λ r. ⌜ length (now (text .exit)) ≡ mostText ⌝ }
-    ensures report { λ r. ⌜ Turns (now (text .entry)) (now (buffer .entry)) start (now (text .exit)) (now (buffer .exit)) (now (out .exit)) r ⌝ }
+    ensures turns { λ r. ⌜ Turns (now (text .entry)) (now (buffer .entry)) start (now (text .exit)) (now (buffer .exit)) (now (out .exit)) r ⌝ }
 {
     let begun = start.stage;
     let filled = start.filled;

@@ -36,7 +36,7 @@ pub record Answering (text₀ : List ℕ) (begun : Stage) (input : List ℕ) (en
 pub answering-starts : (text : List ℕ) (begun : Stage) (input : List ℕ) (ended : Bool) (out : List ℕ) → length text ≡ mostText
     → Answering text begun input ended out text out begun 0 0
 answering-starts text begun input ended out kept =
-    record { kept = kept; size = refl; answers = record { read = omega arith; written = omega arith; report = λ rest ends. refl } }
+    record { kept = kept; size = refl; answers = record { read = omega arith; written = omega arith; prints = λ rest ends. refl } }
 
 module _ (text₀ : List ℕ) (begun : Stage) (input : List ℕ) (ended : Bool) (out₀ text out : List ℕ) (stage : Stage) (used end : ℕ)
     (here : Answering text₀ begun input ended out₀ text out stage used end) (inside : used < length input)
@@ -64,18 +64,18 @@ module _ (text₀ : List ℕ) (begun : Stage) (input : List ℕ) (ended : Bool) 
               record {
                 read = omega (arith, fits, inside);
                 written = wrote-inside (here .answers .written) (r .wrote);
-                report = λ rest ends.
-                    here .answers .report rest ends
+                prints = λ rest ends.
+                    here .answers .prints rest ends
                     ∙ ap (λ (l : List ℕ). take end out ++ l) (turn input used inside (runIn text stage) rest (ends-here rest ends))
-                    ∙ rw (ek, r' .wrote .report, r' .goes-on, append-assoc);
+                    ∙ rw (ek, r' .wrote .contents, r' .goes-on, append-assoc);
               };
         }
 
 -- what a record that is due has
-module _ (stage : Stage) (room : ℕ) (ended : Bool) (size there : ℕ) (is : Bool) (report : is ≡ isDue stage room ended size there) (holds : is ≡ true)
+module _ (stage : Stage) (room : ℕ) (ended : Bool) (size there : ℕ) (is : Bool) (known : is ≡ isDue stage room ended size there) (holds : is ≡ true)
   where
     due : isDue stage room ended size there ≡ true
-    due = sym report ∙ holds
+    due = sym known ∙ holds
 
     pub due-room : longestLine ≤ room
     unfolding isDue
@@ -102,8 +102,8 @@ pub not-due : (input : List ℕ) (used : ℕ) (stage : Stage) (room : ℕ) (ende
     → is ≡ isDue stage room ended size there → is ≡ false → size ≡ bodyLength (kindOf (getD input used 0))
     → there ≡ length (take (length input - (used + 1)) (drop (used + 1) input))
     → nextIsDue stage room ended (drop used input) ≡ false
-not-due input used stage room ended size there is inside report left e f =
-    let here : isDue stage room ended (bodyLength (kindOf (getD input used 0))) (length (drop (used + 1) input)) ≡ false = rw (e, f, to-the-end input (used + 1)) at (sym report ∙ left) in
+not-due input used stage room ended size there is inside known left e f =
+    let here : isDue stage room ended (bodyLength (kindOf (getD input used 0))) (length (drop (used + 1) input)) ≡ false = rw (e, f, to-the-end input (used + 1)) at (sym known ∙ left) in
     rw (drop-cons input used 0 inside) (rw (add-one used) at here)
 
 -- the response to the record that the code asks for is the definition's
@@ -111,12 +111,12 @@ pub responds-at : (run : Run) {text before after : List ℕ} {at : ℕ} {answer 
     → k ≡ kindOf n → asked ≡ recordBehind k rest → Responds (respond run asked) text before at after answer
     → Responds (responseAt run n rest) text before at after answer
 unfolding responseAt recordAt
-responds-at run rest n k asked kind report r = let same : asked ≡ recordBehind (kindOf n) rest = rw kind at report in rw same at r
+responds-at run rest n k asked kind known r = let same : asked ≡ recordBehind (kindOf n) rest = rw kind at known in rw same at r
 
 -- how many bytes of its body are there
 pub least-as : (input : List ℕ) (from least size size' : ℕ) → size ≡ size'
     → least ≡ min (length (take (length input - from) (drop from input))) size → least ≡ min (length (drop from input)) size'
-least-as input from least size size' same report = rw (to-the-end input from, same) at report
+least-as input from least size size' same known = rw (to-the-end input from, same) at known
 
 -- nothing answers what stands behind a stop
 pub stopped-prints-nothing : (input : List ℕ) (skipped : ℕ) → outputFrom input skipped stopped ≡ []
@@ -151,7 +151,7 @@ answered-whole text begun input text' out p fresh here far room = go (ltb (p .us
   rest = drop (p .used) input ++ []
 
   nothing-left : outputFrom rest 0 (runIn text' (p .stage)) ≡ [] → take (p .end) out ≡ outputFrom input 0 (gathering [])
-  nothing-left e = sym (rw (append-nil input, fresh, e, append-nil (take (p .end) out)) at (here .report [] (λ e. refl)))
+  nothing-left e = sym (rw (append-nil input, fresh, e, append-nil (take (p .end) out)) at (here .prints [] (λ e. refl)))
 
   go : (b : Bool) → ltb (p .used) (length input) ≡ b → take (p .end) out ≡ outputFrom input 0 (gathering [])
   go false e = nothing-left (none-after input (p .used) (runIn text' (p .stage)) (omega (arith, here .read, ltb-false (p .used) (length input) e)))

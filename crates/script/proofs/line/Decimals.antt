@@ -59,7 +59,7 @@ few-enough n r small few = go (ltb longestNumber r) refl where
 -- what `io::decimal` spells is the number in decimal
 pub spelled : (n r : ℕ) (out : List ℕ) → n < 2 ^ 64 → Fewest 10 1 n r → take r out ≡ digits 10 r n → take r out ≡ decimal n
 unfolding decimal
-spelled n r out small few report = report ∙ ap (λ (k : ℕ). digits 10 k n) (fewest-counts 19 n r few (few-enough n r small few))
+spelled n r out small few digits-so = digits-so ∙ ap (λ (k : ℕ). digits 10 k n) (fewest-counts 19 n r few (few-enough n r small few))
 
 -- a number below ten is one digit
 pub digit-alone : (n : ℕ) → n < 10 → decimal n ≡ (48 + n) ∷ []

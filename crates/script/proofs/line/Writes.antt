@@ -10,10 +10,10 @@ use Rattle.script.specs.Line.{Wrote}
 
 pub wrote-byte : (out : List ℕ) (at b : ℕ) → at < length out → Wrote out at (b ∷ []) (set out at b) (at + 1)
 wrote-byte out at b inside =
-    record { size = simp length-set; place = refl; report = rw (add-one, take-suc-set out at b inside) }
+    record { size = simp length-set; place = refl; contents = rw (add-one, take-suc-set out at b inside) }
 
 pub wrote-nothing : (out : List ℕ) (at : ℕ) → Wrote out at [] out at
-wrote-nothing out at = record { size = refl; place = omega arith; report = simp append-nil }
+wrote-nothing out at = record { size = refl; place = omega arith; contents = simp append-nil }
 
 pub wrote-then : {before middle after : List ℕ} {at between end : ℕ} {first second : List ℕ}
     → Wrote before at first middle between → Wrote middle between second after end → Wrote before at (first ++ second) after end
@@ -21,7 +21,7 @@ wrote-then {at = at} {first = first} {second = second} w v =
     record {
       size = v .size ∙ w .size;
       place = simp length-append (omega (arith, v .place, w .place));
-      report = rw (v .report, w .report, append-assoc);
+      contents = rw (v .contents, w .contents, append-assoc);
     }
 
 -- the same bytes and the same end, said otherwise
@@ -31,7 +31,7 @@ wrote-as w e f = rw (← e, ← f) w
 
 pub wrote-inside : {before after bytes : List ℕ} {at end : ℕ} → at ≤ length before → Wrote before at bytes after end → end ≤ length after
 wrote-inside {before = before} {after = after} {bytes = bytes} {at = at} {end = end} inside w =
-    let sizes : length (take end after) ≡ length (take at before ++ bytes) = ap length (w .report) in
+    let sizes : length (take end after) ≡ length (take at before ++ bytes) = ap length (w .contents) in
     omega (arith, simp (length-take, length-append) at sizes, w .place, inside)
 
 -- A loop that writes bytes one by one: what it has written after `i` of them.

@@ -19,13 +19,13 @@ number-step s place size inside = rw (drop-cons s place 0 inside)
 -- the number in all but the first `left` of the bytes
 pub record Reading (body : List ℕ) (place size number left : ℕ) : Type 0 where
   pub within : left ≤ size
-  pub report : number ≡ numberAt body (place + left) (size - left)
+  pub value : number ≡ numberAt body (place + left) (size - left)
   pub fits : number < 256 ^ (size - left)
 
 pub reading-starts : (body : List ℕ) (place size : ℕ) → Reading body place size 0 size
 reading-starts body place size =
     let nothing : size - size ≡ 0 = omega arith in
-    record { within = omega arith; report = rw nothing; fits = rw nothing (omega arith) }
+    record { within = omega arith; value = rw nothing; fits = rw nothing (omega arith) }
 
 module _ (body : List ℕ) (place size number left : ℕ) (inside : place + size ≤ length body) (here : Reading body place size number left) where
   module _ (more : 0 < left) where
@@ -40,9 +40,9 @@ module _ (body : List ℕ) (place size number left : ℕ) (inside : place + size
     reading-goes-on small =
         record {
           within = omega (arith, here .within);
-          report =
+          value =
               rw (one-more, number-step body (place + (left - 1)) (size - left) (omega (arith, here .within)), behind)
-              (omega (arith, here .report));
+              (omega (arith, here .value));
           fits = rw one-more (omega (arith, here .fits, pow-step 256 (size - left)));
         }
 
@@ -56,4 +56,4 @@ module _ (body : List ℕ) (place size number left : ℕ) (inside : place + size
   reading-ends nothing =
       let whole : size - left ≡ size = omega (arith, nothing) in
       let start : place + left ≡ place = omega (arith, nothing) in
-      (rw (whole, start) at (here .report), rw whole at (here .fits))
+      (rw (whole, start) at (here .value), rw whole at (here .fits))

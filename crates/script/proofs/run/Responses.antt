@@ -55,7 +55,7 @@ take-least l n = go (ltb n (length l)) refl where
 -- the part of a buffer from 0 to k has k - 0 bytes
 module _ (buffer : List ℕ) (k n : ℕ) (st : State) (r : Reader) (asked : Call) (reply : Reply)
     (within : k ≡ min n (length buffer))
-    (report : reply ≡ replyOf (answerTo readingOn (take (k - 0) buffer) st (callBy asked r)))
+    (replied : reply ≡ replyOf (answerTo readingOn (take (k - 0) buffer) st (callBy asked r)))
   where
     pub call-responds : {out after : List ℕ} {at end : ℕ} {answer : Response'} → Wrote out at (replyLine asked reply) after end
         → answer ≡ record { stage = stage.Opened n (reply .state); end = end }
@@ -63,5 +63,5 @@ module _ (buffer : List ℕ) (k n : ℕ) (st : State) (r : Reader) (asked : Call
     unfolding callResponse
     call-responds w answered =
         let whole-part : k - 0 ≡ k = omega arith in
-        let reply-told : reply ≡ replyOf (answerTo readingOn (take n buffer) st (callBy asked r)) = rw (whole-part, within, take-least buffer n) at report in
+        let reply-told : reply ≡ replyOf (answerTo readingOn (take n buffer) st (callBy asked r)) = rw (whole-part, within, take-least buffer n) at replied in
         responds answered (wrote-as w (rw reply-told) refl) (rw reply-told)

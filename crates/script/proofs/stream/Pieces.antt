@@ -148,7 +148,7 @@ turned text buffer begun filled ended text' buffer' out p kept next inside answe
     record {
       kept = omega (arith, inside, count, size);
       written = a .written;
-      report = λ rest ends. rw left (a .report rest ends);
+      prints = λ rest ends. rw left (a .prints rest ends);
       leads = rw (left, chosen) (leads-as (p .stage) (length out - p .end) ended (drop (p .used) (take filled buffer)) text' due);
     }
 
@@ -176,10 +176,10 @@ came-some (suc n) e = omega arith
 part-length : (l : List ℕ) (k : ℕ) → length (take (length l - k) (drop k l)) ≡ length l - k
 part-length l k = simp (length-take, length-drop) (omega arith)
 
-pub reads-as : (kept : ℕ) (buffer part : List ℕ) (got : ℤ) (came : ℕ) (report : Arrival) → kept ≤ length buffer
+pub reads-as : (kept : ℕ) (buffer part : List ℕ) (got : ℤ) (came : ℕ) (answer : Arrival) → kept ≤ length buffer
     → came ≡ clamped got (length (take (length (putMid kept (length buffer - kept) buffer part) - kept) (drop kept (putMid kept (length buffer - kept) buffer part))))
-    → report ≡ arrivalOf got kept came → Reads kept buffer (putMid kept (length buffer - kept) buffer part) report
-reads-as kept buffer part got came report inside count e =
+    → answer ≡ arrivalOf got kept came → Reads kept buffer (putMid kept (length buffer - kept) buffer part) answer
+reads-as kept buffer part got came answer inside count e =
     record {
       same = take-put kept (length buffer - kept) buffer part inside;
       got = got;
@@ -205,9 +205,9 @@ came-behind kept filled buffer (pos k) e = go (clamped (pos k) (length buffer - 
       (omega (arith, some, same), λ inside. omega (arith, inside, fits, same))
 
 -- how a run goes on behind a write that failed, and behind a turn by what it says is to be done
-follows-by : (n m : Next) (turn : Turn) (ended : Bool) (buffer buffer' : List ℕ) (report : Status) → m ≡ n → FollowsBy n turn ended buffer buffer' report
-    → FollowsBy m turn ended buffer buffer' report
-follows-by n m turn ended buffer buffer' report e h = rw e h
+follows-by : (n m : Next) (turn : Turn) (ended : Bool) (buffer buffer' : List ℕ) (answer : Status) → m ≡ n → FollowsBy n turn ended buffer buffer' answer
+    → FollowsBy m turn ended buffer buffer' answer
+follows-by n m turn ended buffer buffer' answer e h = rw e h
 
 module _ (done : Bool) (turn : Turn) (ended : Bool) (buffer : List ℕ) where
   pub follows-failed : done ≡ false → Follows done turn ended buffer buffer status.CannotWrite
@@ -219,6 +219,6 @@ module _ (done : Bool) (turn : Turn) (ended : Bool) (buffer : List ℕ) where
   pub follows-again : done ≡ true → turn .next ≡ next.Again → Follows done turn ended buffer buffer (afterNoRead turn ended)
   follows-again e n = rw e (follows-by next.Again (turn .next) turn ended buffer buffer (afterNoRead turn ended) n (refl, refl))
 
-  pub follows-read : (buffer' : List ℕ) (came : Arrival) (report : Status) → done ≡ true → turn .next ≡ next.Read → Reads (turn .kept) buffer buffer' came → report ≡ afterRead turn came
-      → Follows done turn ended buffer buffer' report
-  follows-read buffer' came report e n reads tells = rw e (follows-by next.Read (turn .next) turn ended buffer buffer' report n (record { came = came; reads = reads; tells = tells }))
+  pub follows-read : (buffer' : List ℕ) (came : Arrival) (answer : Status) → done ≡ true → turn .next ≡ next.Read → Reads (turn .kept) buffer buffer' came → answer ≡ afterRead turn came
+      → Follows done turn ended buffer buffer' answer
+  follows-read buffer' came answer e n reads tells = rw e (follows-by next.Read (turn .next) turn ended buffer buffer' answer n (record { came = came; reads = reads; tells = tells }))
