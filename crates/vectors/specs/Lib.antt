@@ -1,3 +1,4 @@
+-- The recorded answers of the crate, from a number in hex to an input with all its lines. All of it is ours.
 pub mod Hex
 pub mod Packed
 pub mod Line

@@ -33,8 +33,8 @@ module _ (what bytes : ℕ) (f : Format) (buffer : List ℕ) (end : ℕ) (is : b
       → kind ≡ byteOf what 0 → value ≡ byteOf what 7 → st ≡ stateOf what f
       → answer ≡ answerTo kind (readingFor st r) (take (end - 0) buffer) st r value → answer ≡ askedOf what f bytes r
   unfolding stateOf
-  same-call r answer kind value st k v s report =
-      let whole : end - 0 ≡ end = omega arith in report ∙ rw (k, v, s, whole, is, to)
+  same-call r answer kind value st k v s known =
+      let whole : end - 0 ≡ end = omega arith in known ∙ rw (k, v, s, whole, is, to)
 
   module _ (within : end ≤ length buffer) (n : ℕ) (who : Named) (by : n ≡ byteOf what 1) (named : namedReader who ≡ readerNamed n) where
     short : byteOf what 2 ≤ 8
@@ -46,4 +46,4 @@ module _ (what bytes : ℕ) (f : Format) (buffer : List ℕ) (end : ℕ) (is : b
 
     pub asked : (r : Reader) (answer : Repeated) → who ≡ Known r → answer ≡ askedOf what f bytes r → answer ≡ repeatedOf what f bytes
     unfolding repeatedOf
-    asked r answer e report = rw (le-leb (byteOf what 2) 8 short, ← by, ← named, e) report
+    asked r answer e known = rw (le-leb (byteOf what 2) 8 short, ← by, ← named, e) known
