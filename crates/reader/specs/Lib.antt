@@ -1,4 +1,5 @@
--- Document 01's definitions, in its order; then a column of cells, which is ours. Code has what only private functions are promised.
+-- Document 01's definitions, in its order, with what demand 1 and demand 3 claim (RefusalKeeps, ByteTally); then a column of cells, which
+-- is ours. Code has what only private functions are promised.
 pub mod Rule
 pub mod Place
 pub mod Reading
@@ -11,8 +12,8 @@ pub mod ZeroSkip
 pub mod Part
 pub mod Block
 pub mod Plain
-pub mod RefusalKeeps
 pub mod History
+pub mod RefusalKeeps
 pub mod ByteTally
 pub mod Bytes
 pub mod Column

@@ -1,2 +1,2 @@
--- What the proofs of the functions that show an answer use.
+-- What a refused call shows (src/call.rt).
 mod Refused

@@ -1,3 +1,3 @@
--- What the proofs of this room use; Writes also those of the responses, of the loop over records and of the messages.
+-- A number's digits, and bytes written behind others (src/line.rt); the responses, the loop over records and the messages cite Writes.
 mod Decimals
 pub mod Writes

@@ -1,2 +1,2 @@
--- What the proofs of `number_at` and `byte_at` use.
+-- Numbers in the body of a record (src/record.rt).
 mod Numbers

@@ -1,2 +1,2 @@
--- What the proofs of this room use.
+-- The response to one record (src/run.rt).
 mod Responses

@@ -1,2 +1,2 @@
--- What the proofs of this room, of `take_turns` and of the history of a whole run use.
+-- Input taken in piece by piece (src/stream.rt); `take_turns` and the history of a whole run cite it.
 pub mod Pieces
