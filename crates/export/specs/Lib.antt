@@ -1,5 +1,6 @@
-pub mod Reply
-pub mod Numbers
-pub mod Zeros
-pub mod Block
-pub mod Cells
+pub mod State
+pub mod Answer
+pub mod Calls
+pub mod Column
+pub mod Plain
+pub mod Code

@@ -1,80 +1,71 @@
-// The zero skip for a caller who has numbers only.
+// The zero skip.
 ghost use mathlib.Core.Path.{_≡_};
 ghost use Rattle.reader.specs.Answer.{skipOutcomeOf};
-ghost use Rattle.export.specs.Reply.{stateOf};
-ghost use Rattle.export.specs.Zeros.{skipWritten, skippedBy, skipHeld};
-use crate::numbers::Numbers;
-use crate::numbers::numbers_of;
-use crate::numbers::put_numbers;
-use crate::reply::state_of;
+ghost use Rattle.export.specs.State.{stateWords};
+ghost use Rattle.export.specs.Answer.{zerosWords};
+ghost use Rattle.export.specs.Calls.{skippedBy};
+ghost use Rattle.export.specs.Code.Reply.{zerosReply};
+use crate::reply::Reply;
+use crate::reply::put;
+use crate::reply::refused;
+use crate::state::reader_on;
+use crate::state::state_in;
 use reader::iterator::SkipAnswer;
 use reader::iterator::Skipped;
+use reader::iterator::skip_zeros;
 use reader::state::Named;
-use reader::state::State;
-use reader::state::reader_named;
 
-// What is returned and written: besides the numbers, how many zeros were taken.
-pub struct SkipReply {
-    pub numbers: Numbers,
-    pub zeros: usize,
-}
-
-// An answer as numbers. A refusal keeps the old number of zeros.
-fn reply_of(answer: SkipAnswer, old: usize) -> SkipReply
-    ensures { λ r. ⌜ r ≡ skipWritten old (skipOutcomeOf answer) ⌝ }
+fn of_skip(answer: SkipAnswer, old: u64) -> Reply
+    ensures { λ r. ⌜ r ≡ zerosReply old (skipOutcomeOf answer) ⌝ }
 {
     let report = answer.report;
     let skipped = report.skipped;
+    let state = answer.state;
+    let taken = report.taken;
+    let passed = report.passed;
     match skipped {
-        Skipped::Zeros(zeros) => {
-            let numbers = numbers_of(0, answer.state, report.taken, report.passed);
-            SkipReply { numbers, zeros }
-        }
-        Skipped::Refused(refusal) => {
-            let numbers = numbers_of(refusal.number(), answer.state, report.taken, report.passed);
-            SkipReply {
-                numbers,
-                zeros: old,
-            }
-        }
+        Skipped::Zeros(zeros) => Reply {
+            number: 0,
+            state,
+            found: 0,
+            value: zeros as u64,
+            taken,
+            passed,
+        },
+        Skipped::Refused(refusal) => Reply {
+            number: refusal.number(),
+            state,
+            found: 0,
+            value: old,
+            taken,
+            passed,
+        },
     }
 }
 
-fn called(s: &[u8], state: State, reader: u8, old: usize) -> SkipReply
-    ensures { λ r. ⌜ r ≡ skipWritten old (skippedBy reader (now (s .entry)) state) ⌝ }
-{
-    let by = reader_named(reader);
-    match by {
-        Named::Known(x) => reply_of(reader::iterator::skip_zeros(s, state, x), old),
-        Named::Unknown => {
-            let numbers = numbers_of(19, state, 0, 0);
-            SkipReply {
-                numbers,
-                zeros: old,
-            }
-        }
-    }
-}
-
-// A zero skip on the caller's numbers.
-pub(crate) fn run(
+// Takes the zeros under the cursor, each of which is counted, until a read of one fails. Taken and passed are the sums of its reads.
+#[no_mangle]
+pub extern "C" fn pawhetino_skip_zeros(
     s: &[u8],
-    lo: u64,
-    hi: u64,
     reader: u8,
-    cursor: &mut usize,
-    integer: &mut usize,
-    fraction: &mut usize,
-    exponent: &mut usize,
-    zeros: &mut usize,
-    taken: &mut usize,
-    passed: &mut usize,
+    state: &mut [u64; 8],
+    answer: &mut [u64; 4],
 ) -> u32
-    ensures { λ r. ⌜ skipHeld r (now (cursor .exit)) (now (integer .exit)) (now (fraction .exit)) (now (exponent .exit)) (now (zeros .exit)) (now (taken .exit)) (now (passed .exit)) ≡ skipWritten (now (zeros .entry)) (skippedBy reader (now (s .entry)) (stateOf lo hi (now (cursor .entry)) (now (integer .entry)) (now (fraction .entry)) (now (exponent .entry)))) ⌝ }
+    ensures number { λ r. ⌜ r ≡ skippedBy reader (now (state .entry)) (now (s .entry)) .refusal ⌝ }
+    ensures moved { λ _. ⌜ now (state .exit) ≡ stateWords (now (state .entry)) (skippedBy reader (now (state .entry)) (now (s .entry)) .state) ⌝ }
+    ensures written { λ _. ⌜ now (answer .exit) ≡ zerosWords (now (answer .entry)) (skippedBy reader (now (state .entry)) (now (s .entry))) ⌝ }
 {
-    let state = state_of(lo, hi, *cursor, *integer, *fraction, *exponent);
-    let reply = called(s, state, reader, *zeros);
-    *zeros = reply.zeros;
-    let numbers = reply.numbers;
-    put_numbers(numbers, cursor, integer, fraction, exponent, taken, passed)
+    let old = answer[1];
+    let here = state_in(&*state);
+    let by = reader_on(reader, state[7]);
+    match by {
+        Named::Known(x) => {
+            let reply = of_skip(skip_zeros(s, here, x), old);
+            put(reply, &mut *state, &mut *answer)
+        }
+        Named::Unknown => {
+            let reply = refused(19, here, old);
+            put(reply, &mut *state, &mut *answer)
+        }
+    }
 }

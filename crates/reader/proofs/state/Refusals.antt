@@ -1,12 +1,12 @@
 -- What a call may count on that is not refused, and what it answers where it is: for every call. Assumes nothing.
-use mathlib.Core.Path.{_≡_, refl, sym}
+use mathlib.Core.Path.{_≡_, _∙_, refl, sym}
 use mathlib.Core.Bool.{Bool, true, false, cond, not}
 use mathlib.Core.List.{List, [], _∷_}
-use Prim.Native.Nat.{ℕ, _≤_}
+use Prim.Native.Nat.{ℕ, _≤_, _<_}
 use native.Mathlib.Omega.{arith}
 use lib.Dec.{eqb, leb}
 use lib.ListN.{length}
-use borrow.Author.Tests.{leb-true, le-leb}
+use borrow.Author.Tests.{leb-true, leb-false, le-leb, lt-leb}
 use Rattle.reader.specs.declared.rule.Flags.{Flags}
 use Rattle.reader.specs.declared.state.Reader.{Reader}
 use Rattle.reader.specs.declared.state.Reader.the-variants.{Integer, Fraction, Exponent, Special}
@@ -20,6 +20,13 @@ use Rattle.reader.specs.Answer.{numberOf}
 use Rattle.reader.specs.Calls.{line16, line17, line18, lineConsecutive, consecutiveNumber, placeRefusal, refusalWith, refusalOf, refused, peeked, peekOf}
 use Rattle.reader.specs.ZeroSkip.{skipRefusal}
 use Rattle.reader.specs.Block.{blockRefusal}
+
+-- two tests of order that hold together are the same test: for those that form no sum
+pub leb-same : (a b x y : ℕ) → (a ≤ b → x ≤ y) → (b < a → y < x) → leb a b ≡ leb x y
+leb-same a b x y holds fails = go (leb a b) refl where
+  go : (t : Bool) → leb a b ≡ t → leb a b ≡ leb x y
+  go true t = t ∙ sym (le-leb x y (holds (leb-true a b t)))
+  go false t = t ∙ sym (lt-leb x y (fails (leb-false a b t)))
 
 -- where the tests 16 and 17 hold and whatever comes after them, the cursor is within the buffer and the counts within the cursor
 module _ (s : List ℕ) (st : State) (rest : List ℕ) where

@@ -1,21 +1,13 @@
 -- `reader::state::counts_fit` meets its contract: what is left of the cursor is compared, and no sum is formed. Assumes nothing.
-use mathlib.Core.Path.{_≡_, _∙_, refl, sym}
-use mathlib.Core.Bool.{Bool, true, false}
-use Prim.Native.Nat.{ℕ, _+_, _-_, _≤_, _<_}
+use mathlib.Core.Path.{sym}
+use Prim.Native.Nat.{_-_}
 use native.Mathlib.Omega.{arith}
-use lib.Dec.{leb}
-use borrow.Author.Tests.{leb-true, leb-false, le-leb, lt-leb}
+use borrow.Author.Tests.{lt-leb}
 use Rattle.reader.specs.State.{countSum}
+use Rattle.reader.proofs.state.Refusals.{leb-same}
 use borrow.Author.Needs.{needs}
 use Rattle.reader.proofs.state.counts_fit.Statement.{statement}
 use Rattle.reader.proofs.state.counts_fit.Tie as tie
-
--- two tests of order that hold together are the same test
-leb-same : (a b x y : ℕ) → (a ≤ b → x ≤ y) → (b < a → y < x) → leb a b ≡ leb x y
-leb-same a b x y holds fails = go (leb a b) refl where
-  go : (t : Bool) → leb a b ≡ t → leb a b ≡ leb x y
-  go true t = t ∙ sym (le-leb x y (holds (leb-true a b t)))
-  go false t = t ∙ sym (lt-leb x y (fails (leb-false a b t)))
 
 returns : tie.Need-returns
 returns c = let st = c .before .args .state in sym (lt-leb (countSum st) (st .cursor) (omega arith))

@@ -1,0 +1,98 @@
+-- `export::next::pawhetino_next` meets its contract: a byte that is no separator is taken by numbers, anything else is left to the reader. Assumes nothing.
+use mathlib.Core.Path.{refl}
+use native.Mathlib.Omega.{arith}
+use Rattle.export.proofs.here.Sight.{sight, next-words}
+use borrow.Author.Needs.{needs}
+use Rattle.export.proofs.next.pawhetino_next.Statement.{statement}
+use Rattle.export.proofs.next.pawhetino_next.Tie as tie
+
+next-any-requires : tie.Need-next-any-requires
+next-any-requires c κs = search needs
+
+returns : tie.Need-returns
+returns c = search needs
+
+byte-here-requires : tie.Need-byte-here-requires
+byte-here-requires c κs = search needs
+
+enum-known-here : tie.Need-enum-known-here
+enum-known-here c = search needs
+
+element-copy-out-lo : tie.Need-element-copy-out-lo
+element-copy-out-lo c = search needs
+
+element-copy-out-hi : tie.Need-element-copy-out-hi
+element-copy-out-hi c = search needs
+
+element-copy-out-cursor : tie.Need-element-copy-out-cursor
+element-copy-out-cursor c = search needs
+
+own-bits-requires : tie.Need-own-bits-requires
+own-bits-requires c κs =
+    let a = c .before .before .before .before .before .before .before .before .before .before .args in
+    sight (a .reader) (a .state .now) (a .s .now) _ _ (c .before .before .before .before .before .before .byte-here .ensures) (c .before .before .before .before .here .given .1) .low
+
+has-any-requires : tie.Need-has-any-requires
+has-any-requires c κs = search needs
+
+radix-of-requires : tie.Need-radix-of-requires
+radix-of-requires c κs = search needs
+
+char-is-digit-by-range-requires : tie.Need-char-is-digit-by-range-requires
+char-is-digit-by-range-requires c κs = search needs
+
+add-past : tie.Need-add-past
+add-past c =
+    let a = c .before .before .before .before .before .before .before .before .before .before .before .before .before .before .args in
+    let here = sight (a .reader) (a .state .now) (a .s .now) _ _ (c .before .before .before .before .before .before .before .before .before .before .byte-here .ensures) (c .before .before .before .before .before .before .before .before .here .given .1) in
+    omega (arith, here .inside)
+
+wide-requires : tie.Need-wide-requires
+wide-requires c κs = search needs
+
+put-past-requires : tie.Need-put-past-requires
+put-past-requires c κs =
+    let a = c .before .before .before .before .before .before .before .before .before .before .before .before .before .before .before .before .before .args in
+    let here = sight (a .reader) (a .state .now) (a .s .now) _ _ (c .before .before .before .before .before .before .before .before .before .before .before .before .before .byte-here .ensures) (c .before .before .before .before .before .before .before .before .before .before .before .here .given .1) in
+    (here .low, (here .fit, refl))
+
+enum-told : tie.Need-enum-told
+enum-told c = search needs
+
+next-any-requires-2 : tie.Need-next-any-requires-2
+next-any-requires-2 c κs = search needs
+
+returns-2 : tie.Need-returns-2
+returns-2 c =
+    let a = c .before .before .before .before .before .before .before .before .before .before .before .before .before .before .before .before .before .before .args in
+    let here = sight (a .reader) (a .state .now) (a .s .now) _ _ (c .before .before .before .before .before .before .before .before .before .before .before .before .before .before .byte-here .ensures) (c .before .before .before .before .before .before .before .before .before .before .before .before .here .given .1) in
+    let own = c .before .before .before .before .before .before .before .own-bits .ensures in
+    rw (c .put-past .ensures, c .before .before .before .wide .ensures)
+    (next-words (a .reader) (a .state .now) (a .s .now) _ here (a .answer .now) _
+    (rw (c .before .before .before .before .char-is-digit-by-range .ensures, c .before .before .before .before .before .before .has-any .ensures, own .0, c .before .before .before .before .before .radix-of .ensures)) (own .1))
+
+returns-3 : tie.Need-returns-3
+returns-3 c = search needs
+
+pub pawhetino-next-spec : {M : Type 1} → statement M
+pawhetino-next-spec =
+    tie.close
+    (tie.spec
+    next-any-requires
+    returns
+    byte-here-requires
+    enum-known-here
+    element-copy-out-lo
+    element-copy-out-hi
+    element-copy-out-cursor
+    own-bits-requires
+    has-any-requires
+    radix-of-requires
+    char-is-digit-by-range-requires
+    add-past
+    wide-requires
+    put-past-requires
+    enum-told
+    next-any-requires-2
+    returns-2
+    returns-3)

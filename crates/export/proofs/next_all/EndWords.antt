@@ -1,0 +1,67 @@
+-- The words that are written where a grouped cell is taken by numbers are those of the call: for `pawhetino_next_all`. Assumes nothing.
+use mathlib.Core.Path.{_≡_, _∙_, refl, sym}
+use mathlib.Core.Bool.{Bool, true, false, cond, not, _||_}
+use mathlib.Core.List.{List, [], _∷_}
+use mathlib.Core.Option.{some}
+use Prim.Native.Nat.{ℕ, _+_, _-_, _<_, _≤_}
+use native.Mathlib.Omega.{arith}
+use lib.Dec.{eqb, ltb}
+use lib.ListN.{length, getD}
+use borrow.Author.Tests.{eqb-true, not-false}
+use Rattle.word.specs.declared.format_flags.Format.{Format}
+use Rattle.word.specs.Word.{flag, digitSeparator, mantissaRadix}
+use Rattle.reader.specs.declared.state.Reader.{Reader}
+use Rattle.reader.specs.Reading.{flagsAt, flagsOf, syntaxOf, syntaxOn, readingFor}
+use Rattle.reader.specs.State.{freshOf}
+use Rattle.reader.specs.Answer.{Outcome}
+use Rattle.reader.specs.Calls.{nextAllOf}
+use Rattle.reader.specs.Code.TakeSums.{sumsOutcome}
+use Rattle.export.specs.State.{stateIn, stateWords, isEdition, readerOn}
+use Rattle.export.specs.Answer.{byteWords}
+use Rattle.export.specs.Calls.{takenAllBy}
+use Rattle.export.specs.Code.GroupedCell.{Between, GroupedCell}
+use Rattle.export.proofs.here.CountedReaders.{counted-reader, named-on, end-words}
+
+-- of two tests that fail together, each fails
+pub left-fails : (a b : Bool) → (a || b) ≡ false → a ≡ false
+left-fails false b e = refl
+left-fails true b e = e
+
+pub right-fails : (a b : Bool) → (a || b) ≡ false → b ≡ false
+right-fails false b e = e
+right-fails true b e = cc
+
+-- a number that is not told to be other than 0 is 0
+pub is-zero : (n : ℕ) → not (eqb n 0) ≡ false → n ≡ 0
+is-zero n e = eqb-true n 0 (not-false _ e)
+
+module _ (n : ℕ) (w s : List ℕ) (low : n ≤ 2) (edition : getD w 7 0 ≡ 0)
+    (cursor : getD w 2 0 ≡ 0) (integer : getD w 3 0 ≡ 0) (fraction : getD w 4 0 ≡ 0) (exponent : getD w 5 0 ≡ 0) where
+  abbrev f : Format
+  f = record { lo = getD w 0 0; hi = getD w 1 0 }
+
+  abbrev r : Reader
+  r = counted-reader n low .reader
+
+  fresh : stateIn w ≡ freshOf f
+  fresh = rw (cursor, integer, fraction, exponent) refl
+
+  by : readerOn n (getD w 7 0) ≡ some r
+  by = named-on n (getD w 7 0) low (rw edition)
+
+  module _ (count passed : ℕ) (positive : 0 < digitSeparator f) (internal : flag f (32 + n) ≡ true)
+      (cell : GroupedCell (digitSeparator f) (mantissaRadix f) s count passed) where
+    taken-all : takenAllBy n w s ≡ sumsOutcome (freshOf f) r (record { at = length s; count = count; passed = passed })
+    unfolding takenAllBy syntaxOn syntaxOf
+    taken-all =
+        rw (by, fresh)
+        (sym (cell (syntaxOf f r) f r
+        (record { own-separator = refl; own-radix = refl; internal = rw (counted-reader n low .flags f) internal; counted = counted-reader n low .counts; positive = positive })))
+
+    pub end-written : (old : List ℕ)
+        → (0 ≡ takenAllBy n w s .refusal)
+        × (((getD w 0 0 ∷ getD w 1 0 ∷ length s ∷ cond (eqb n 0) count 0 ∷ cond (eqb n 1) count 0 ∷ cond (eqb n 2) count 0 ∷ getD w 6 0 ∷ getD w 7 0 ∷ []) ≡ stateWords w (takenAllBy n w s .state))
+        × ((0 ∷ getD old 1 0 ∷ (length s - passed) ∷ passed ∷ []) ≡ byteWords old (takenAllBy n w s)))
+    end-written old =
+        let whole : length s - 0 - passed ≡ length s - passed = omega arith in
+        rw taken-all (refl, (end-words n low w (freshOf f) (length s) count refl refl refl, rw whole refl))

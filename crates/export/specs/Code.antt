@@ -1,0 +1,4 @@
+-- What private functions of the code are promised to compute. No public contract cites it.
+pub mod Reply
+pub mod Here
+pub mod GroupedCell

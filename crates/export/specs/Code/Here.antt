@@ -1,0 +1,39 @@
+-- A byte that is no separator under the cursor of a counted reader that is not refused (src/here.rt). Assumes nothing.
+use Prim.Native.Nat.{ℕ, _+_}
+use mathlib.Core.Bool.{Bool, cond, not, _&&_}
+use mathlib.Core.List.{List, [], _∷_}
+use lib.Dec.{eqb, leb, ltb}
+use lib.ListN.{length, getD}
+use Rattle.word.specs.declared.format_flags.Format.{Format}
+use Rattle.word.specs.Bits.{bit}
+use Rattle.word.specs.Word.{digitSeparator}
+use Rattle.reader.specs.declared.rule.Flags.{Flags}
+use Rattle.reader.specs.State.{countSum}
+use Rattle.reader.specs.Reading.{flagsAt, isConsecutiveAlone}
+use Rattle.export.specs.declared.here.Here.{Here}
+use Rattle.export.specs.declared.here.Here.the-variants.{Byte, Other}
+use Rattle.export.specs.State.{stateIn, isEdition}
+
+-- the flags of a counted reader in the lower half, once that is shifted down by the reader's number
+abbrev pub ownFlags : ℕ → Flags
+ownFlags own = record { internal = bit own 32; leading = bit own 35; trailing = bit own 38; consecutive = bit own 41 }
+
+-- the reader counts, and its edition is known; its flags and the state's counts are not refused; the byte is no separator
+abbrev pub isServed : ℕ → List ℕ → Bool
+isServed n w = leb n 2 && isEdition (getD w 7 0)
+
+abbrev pub isClear : ℕ → List ℕ → Bool
+isClear n w = not (isConsecutiveAlone (flagsAt (stateIn w .format) n)) && leb (countSum (stateIn w)) (stateIn w .cursor)
+
+abbrev pub isOther : List ℕ → List ℕ → Bool
+isOther w s = ltb (stateIn w .cursor) (length s) && not (eqb (getD s (stateIn w .cursor) 0) (digitSeparator (stateIn w .format)))
+
+unfoldable pub hereOf : ℕ → List ℕ → List ℕ → Here
+hereOf n w s = cond (isServed n w && isClear n w && isOther w s) (Byte (getD s (stateIn w .cursor) 0)) Other
+
+-- the words one byte on, where the count of the reader n is raised if the byte is counted
+abbrev pub wordsPast : List ℕ → ℕ → Bool → List ℕ
+wordsPast w n counted =
+    getD w 0 0 ∷ getD w 1 0 ∷ (getD w 2 0 + 1) ∷ cond (eqb n 0 && counted) (getD w 3 0 + 1) (getD w 3 0)
+    ∷ cond (eqb n 1 && counted) (getD w 4 0 + 1) (getD w 4 0) ∷ cond (eqb n 2 && counted) (getD w 5 0 + 1) (getD w 5 0)
+    ∷ getD w 6 0 ∷ getD w 7 0 ∷ []
