@@ -53,7 +53,8 @@ int LLVMFuzzerTestOneInput(const uint8_t *data, size_t size) {
     in.state[PAWHETINO_STATE_LO] = number(8), in.state[PAWHETINO_STATE_HI] = number(8);
     in.reader = (uint8_t)number(1), in.value = (uint8_t)number(1);
     in.state[PAWHETINO_STATE_CURSOR] = number(2);
-    for (int i = PAWHETINO_STATE_INTEGER; i <= PAWHETINO_STATE_EDITION; i++) in.state[i] = number(1);
+    for (int i = PAWHETINO_STATE_INTEGER; i <= PAWHETINO_STATE_KEPT; i++) in.state[i] = number(1);
+    in.state[PAWHETINO_STATE_EDITION] = number(1) / 0xF0;
     in.n = number(2), in.radix = (uint32_t)number(2);
     for (int i = 0; i < 4; i++) in.set[i] = number(8);
     in.cells = number(1) % (MOST_CELLS + 1);
