@@ -1,9 +1,9 @@
 /* Pawhetino for C and C++: the functions of target/staticlib/libexport.a. Each is proved to answer as document 01 defines, for all
  * values of its arguments.
  *
- * What every call asks of its caller is about pointers: none is null, also where a length is 0; each is aligned for its type and valid
- * for as many elements as the length beside it or its array type says, or for one; nothing that is written overlaps anything else
- * that is given; and nobody else writes to any of it during the call.
+ * Every call asks the same of its caller, about pointers: none is null, also where a length is 0; each is aligned for its type, and
+ * valid for as many elements as the length beside it or its array type says, or for one; nothing that is written overlaps anything
+ * else that is given; and nobody else writes to any of it during the call.
  */
 #ifndef PAWHETINO_H
 #define PAWHETINO_H
@@ -45,8 +45,8 @@ extern "C" {
 #define PAWHETINO_EXPONENT_CONSECUTIVE (UINT64_C(1) << 43)
 #define PAWHETINO_SPECIAL_DIGIT_SEPARATOR (UINT64_C(1) << 44)
 
-/* The high half has these bytes, each from its bit on up. Separator, prefix and suffix are 0 for none; an exponent base or radix of 0
- * means the mantissa radix. */
+/* The high half has these bytes, each from its bit on up. Separator, prefix and suffix are 0 for none; an exponent base or radix
+ * of 0 means the mantissa radix. */
 #define PAWHETINO_DIGIT_SEPARATOR_SHIFT 0
 #define PAWHETINO_BASE_PREFIX_SHIFT 24
 #define PAWHETINO_BASE_SUFFIX_SHIFT 32
@@ -86,7 +86,7 @@ static inline struct pawhetino_word pawhetino_word_of(uint8_t separator, uint8_t
 #define PAWHETINO_CURSOR_PAST_END 16
 #define PAWHETINO_COUNTS_EXCEED_CURSOR 17
 #define PAWHETINO_NOT_BY_SPECIAL 18
-#define PAWHETINO_UNKNOWN 19
+#define PAWHETINO_UNKNOWN 19 /* reader, edition or kind of record */
 #define PAWHETINO_RECORD_CUT_SHORT 20
 #define PAWHETINO_OUT_OF_TURN 21
 #define PAWHETINO_TEXT_FULL 22
@@ -101,7 +101,7 @@ static inline const char *pawhetino_number_words(uint32_t number) {
     case PAWHETINO_INVALID_DIGIT_SEPARATOR: return "separator not a valid control byte";
     case PAWHETINO_INVALID_BASE_PREFIX: return "base prefix not a valid control byte";
     case PAWHETINO_INVALID_BASE_SUFFIX: return "base suffix not a valid control byte";
-    case PAWHETINO_INVALID_PUNCTUATION: return "two equal among separator, base prefix and base suffix";
+    case PAWHETINO_INVALID_PUNCTUATION: return "two of separator, base prefix and base suffix are equal and not 0";
     case PAWHETINO_INVALID_EXPONENT_FLAGS: return "exponent both forbidden and required";
     case PAWHETINO_INVALID_MANTISSA_SIGN: return "mantissa sign required, yet no + allowed";
     case PAWHETINO_INVALID_EXPONENT_SIGN: return "exponent sign required, yet no + allowed";
@@ -121,24 +121,25 @@ static inline const char *pawhetino_number_words(uint32_t number) {
     }
 }
 
-/* The readers. */
+/* The readers: of integer, fraction and exponent digits, and of special values. A reader passes separators where its flags allow
+ * it, and takes the other bytes. */
 #define PAWHETINO_INTEGER 0
 #define PAWHETINO_FRACTION 1
 #define PAWHETINO_EXPONENT 2
 #define PAWHETINO_SPECIAL 3
 
-/* The words of a state. pawhetino_fresh makes one; for a word that it refuses, one is made by hand: the halves, and else 0. A call goes
- * on from the cursor and counts and writes them anew; it never changes the other four words. */
-#define PAWHETINO_STATE_LO 0
+/* The words of a state. pawhetino_fresh makes one; for a format word that it refuses, one is made by hand: the halves, and else 0.
+ * A call goes on from the cursor and counts and writes them anew; it never changes the other four words. */
+#define PAWHETINO_STATE_LO 0       /* the format word's halves */
 #define PAWHETINO_STATE_HI 1
 #define PAWHETINO_STATE_CURSOR 2   /* the place in the buffer */
 #define PAWHETINO_STATE_INTEGER 3  /* digits counted by the integer reader */
 #define PAWHETINO_STATE_FRACTION 4 /* by the fraction reader */
 #define PAWHETINO_STATE_EXPONENT 5 /* by the exponent reader */
 #define PAWHETINO_STATE_KEPT 6     /* 0; kept as given */
-#define PAWHETINO_STATE_EDITION 7  /* 0 */
+#define PAWHETINO_STATE_EDITION 7  /* the edition: 0 */
 
-/* The words of an answer. Word 1 is, by the call, a byte, a number of zeros or a place, and is left as it was where there is none. */
+/* The words of an answer. What word 1 tells goes by the call; where there is nothing to tell it is left as it was. */
 #define PAWHETINO_ANSWER_HAS 0    /* 1 where there is a byte or a block, else 0 */
 #define PAWHETINO_ANSWER_BYTE 1   /* the byte */
 #define PAWHETINO_ANSWER_ZEROS 1  /* of a zero skip: how many */
@@ -164,8 +165,8 @@ bool pawhetino_is_digit(uint64_t lo, uint64_t hi, uint8_t c);
 /* Whether a byte is a word's digit separator. */
 bool pawhetino_is_digit_separator(uint64_t lo, uint64_t hi, uint8_t c);
 
-/* A state for a word, with cursor and counts 0: {lo, hi, 0, 0, 0, 0, 0, edition}. Refused with 19 for an edition other than 0, then as
- * by the full check; the state is then left as it was. */
+/* A state for a word, with cursor and counts 0: {lo, hi, 0, 0, 0, 0, 0, edition}. Refused with 19 for an edition other than 0, then
+ * with 1 to 14 as by the full check; the state is then left as it was. */
 uint32_t pawhetino_fresh(uint64_t lo, uint64_t hi, uint64_t edition, uint64_t state[8]);
 
 /* A reader call is made by one of the four readers on a buffer s of len bytes and a state. It is refused with
@@ -173,8 +174,8 @@ uint32_t pawhetino_fresh(uint64_t lo, uint64_t hi, uint64_t edition, uint64_t st
  *   16 where the cursor is past the end, 17 where the counts together exceed the cursor;
  *   18 by the special reader, which has no zero skip and no block take;
  *   12 to 14 where the reader's consecutive flag stands alone (not a block take),
- * the first of them that holds. A refused call leaves the state and word 1 of the answer as they were and writes 0 to its other three.
- */
+ * the first of them that holds. A refused call leaves the state and word 1 of the answer as they were, and writes 0 to the answer's
+ * other three. */
 
 /* The byte under the cursor, after passing what the reader may pass. Nothing is taken. */
 uint32_t pawhetino_peek(const uint8_t *s, size_t len, uint8_t reader, uint64_t state[8], uint64_t answer[4]);
@@ -182,11 +183,11 @@ uint32_t pawhetino_peek(const uint8_t *s, size_t len, uint8_t reader, uint64_t s
 /* The same, and the byte is taken: the cursor moves past it, and a reader with any flag counts it if it is a digit. */
 uint32_t pawhetino_next(const uint8_t *s, size_t len, uint8_t reader, uint64_t state[8], uint64_t answer[4]);
 
-/* Takes until there is no byte. Taken and passed are the sums of all the takes. */
+/* Takes until there is no byte, so that its answer has none. Taken and passed are the sums of all the takes. */
 uint32_t pawhetino_next_all(const uint8_t *s, size_t len, uint8_t reader, uint64_t state[8], uint64_t answer[4]);
 
-/* Takes the byte, uncounted, where it is in a set of 256 bits, set[0] the lowest 64. Where it is not, there is none, yet the passing
- * stays. */
+/* Takes the byte, uncounted, where it is in a set of 256 bits, set[0] the lowest 64. Where it is not, there is none, yet the
+ * passing stays. */
 uint32_t pawhetino_read_if(
     const uint8_t *s, size_t len, uint8_t reader, uint64_t state[8], uint64_t answer[4], const uint64_t set[4]);
 
@@ -200,24 +201,23 @@ uint32_t pawhetino_skip_zeros(const uint8_t *s, size_t len, uint8_t reader, uint
 
 /* Takes up to n bytes at once, uncounted, by a reader without flags: a block, which may be empty. Its length is what was taken. A
  * reader with any flag has none and stays. */
-uint32_t pawhetino_take_n(
-    const uint8_t *s, size_t len, uint8_t reader, uint64_t state[8], uint64_t answer[4], size_t n);
+uint32_t pawhetino_take_n(const uint8_t *s, size_t len, uint8_t reader, uint64_t state[8], uint64_t answer[4], size_t n);
 
-/* How many digits the reader has counted, as lexical-util shows it: the count in the state; for a reader without flags the cursor where
- * the word has no separator, else the sum of the three; 0 for the special reader. Refused with 19, 16 and 17 alone; *count is then left
- * as it was. */
+/* How many digits the reader has counted, as lexical-util shows it: the count in the state; for a reader without flags the cursor
+ * where the word has no separator, else the sum of the three; 0 for the special reader. Refused with 19, 16 and 17 alone; *count is
+ * then left as it was. */
 uint32_t pawhetino_current_count(const uint8_t *s, size_t len, uint8_t reader, const uint64_t state[8], size_t *count);
 
-/* Takes every cell of a column to its end, each as a buffer of its own from a fresh state. The cells lie one after the other in s: the
- * first begins at 0, every other where the one before it ends, and the k-th ends at ends[k]; an end before the last one or past len
- * counts as that bound. Written are the sums over all cells, *digits of what the reader has counted. Refused with 19, or with 12 to 14
- * as above; the sums are then 0. */
+/* Takes every cell of a column to its end, each as a buffer of its own from a fresh state. The cells lie one after the other in s:
+ * the first begins at 0, every other where the one before it ends, and the k-th ends at ends[k]; an end before the last one or past
+ * len counts as that bound. Written are the sums over all cells, *digits of what the reader has counted. Refused with 19 for
+ * another reader, or with 12 to 14 as above; the sums are then 0. */
 uint32_t pawhetino_next_all_column(
     const uint8_t *s, size_t len, const size_t *ends, size_t cells, uint64_t lo, uint64_t hi, uint8_t reader,
     size_t *taken, size_t *passed, size_t *digits);
 
-/* The byte under a plain reader's cursor. It passes nothing, all four readers are alike, and its state is the cursor alone. Refused with
- * 19 for another reader, then with 16; the answer is as in a reader call. */
+/* The byte under a plain reader's cursor. It passes nothing, all four readers are alike, and its state is the cursor alone. Refused
+ * with 19 for another reader, then with 16; cursor and answer are then as in a refused reader call. */
 uint32_t pawhetino_plain_peek(const uint8_t *s, size_t len, uint8_t reader, size_t *cursor, uint64_t answer[4]);
 
 /* The same, and the cursor moves past the byte. */

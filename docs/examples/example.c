@@ -1,5 +1,5 @@
-/* The library from C: a cell, zeros and a block, a column of cells, and a word that is refused. Each function returns whether something
- * came out otherwise than it must. */
+/* The library from C: a cell, zeros and a block, a column of cells, and a word that is refused. Each function returns whether
+ * something came out otherwise than it must. */
 #include <inttypes.h>
 #include <stdio.h>
 
@@ -25,8 +25,8 @@ static int read_cell(struct pawhetino_word word) {
            answer[PAWHETINO_ANSWER_TAKEN] != 4 || answer[PAWHETINO_ANSWER_PASSED] != 1;
 }
 
-/* `00_12`: the integer reader skips the zeros, and its read that fails passes the separator; the fraction reader, which has no flags in
- * this word, takes what is left as a block. */
+/* `00_12`: the integer reader skips the zeros, and its read that fails passes the separator; the fraction reader, which has no
+ * flags in this word, takes what is left as a block. */
 static int skip_zeros_and_take_block(struct pawhetino_word word) {
     static const uint8_t cell[] = {'0', '0', '_', '1', '2'};
     uint64_t state[8], answer[4], zeros;

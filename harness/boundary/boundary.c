@@ -1,6 +1,6 @@
 /* Arbitrary words, states, readers and buffers through every function of the library, from C, each held to what the header
  * promises (checks.h). Slices and places lie against pages that cannot be read, so that a step beside one is a crash, and a crash
- * or a hang is told with its seed, round and function. Before that the header's own constants are held to the library (constants.h).
+ * or a hang is told with its seed, round and function. First the header's own constants are held to the library (constants.h).
  *
  *   boundary [--heap] [--rounds N] [SEED..]   so many inputs for each seed; the same seeds give the same inputs
  *   boundary --self-test                      whether faults put in place of the library's functions are found (wrong.c)
@@ -21,8 +21,8 @@
 #include "lay.h"
 #include "self_test.h"
 
-/* Every number that can be returned: by the checks 0 to 15, by pawhetino_fresh 0 to 14 and 19, by the calls 0, 12 to 14 and 16 to 19.
- * So many inputs of a seed must have brought them all about. */
+/* Every number that can be returned: by the checks 0 to 15, by pawhetino_fresh 0 to 14 and 19, by the calls 0, 12 to 14 and 16 to
+ * 19. So many inputs of a seed must have brought them all about. */
 static const struct numbers_seen all_numbers = {0xFFFF, 0x87FFF, 0xF7001};
 enum { ROUNDS_FOR_ALL_NUMBERS = 20000 };
 

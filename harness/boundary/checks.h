@@ -31,7 +31,7 @@ struct places {
 /* The slices are at most so long. */
 enum { LONGEST_BUFFER = 8192, MOST_CELLS = 40 };
 
-/* What the functions are given, with copies of the two slices from before any call. Where slices and places lie is told by lay.h. */
+/* What the functions are given, with copies of the two slices from before any call. lay.h says where slices and places lie. */
 struct input {
     const uint8_t *s, *s_copy;
     size_t len;

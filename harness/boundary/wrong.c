@@ -1,16 +1,16 @@
 #include "wrong.h"
 
-#define CALL(name) static uint32_t name(const uint8_t *s, size_t len, uint8_t reader, uint64_t state[8], uint64_t answer[4])
+/* State, answer and set are plain pointers here, since a compiler that knows their length refuses a step beside them. */
+#define CALL(name) static uint32_t name(const uint8_t *s, size_t len, uint8_t reader, uint64_t *state, uint64_t *answer)
 #define ARGUMENTS s, len, reader, state, answer
 
-#define READ(name)                                                                                                   \
-    static uint32_t name(const uint8_t *s, size_t len, uint8_t reader, uint64_t state[8], uint64_t answer[4],       \
-                         const uint64_t set[4])
+#define READ(name) \
+    static uint32_t name(const uint8_t *s, size_t len, uint8_t reader, uint64_t *state, uint64_t *answer, const uint64_t *set)
 
 #define BLOCK(name) \
-    static uint32_t name(const uint8_t *s, size_t len, uint8_t reader, uint64_t state[8], uint64_t answer[4], size_t n)
+    static uint32_t name(const uint8_t *s, size_t len, uint8_t reader, uint64_t *state, uint64_t *answer, size_t n)
 
-#define FRESH(name) static uint32_t name(uint64_t lo, uint64_t hi, uint64_t edition, uint64_t state[8])
+#define FRESH(name) static uint32_t name(uint64_t lo, uint64_t hi, uint64_t edition, uint64_t *state)
 
 #define COLUMN(name)                                                                                                        \
     static uint32_t name(const uint8_t *s, size_t len, const size_t *ends, size_t cells, uint64_t lo, uint64_t hi,         \
@@ -99,7 +99,7 @@ COLUMN(changes_the_ends) {
     return number;
 }
 
-static uint32_t counts_into_the_state(const uint8_t *s, size_t len, uint8_t reader, const uint64_t state[8], size_t *count) {
+static uint32_t counts_into_the_state(const uint8_t *s, size_t len, uint8_t reader, const uint64_t *state, size_t *count) {
     uint32_t number = pawhetino_current_count(s, len, reader, state, count);
     ((uint64_t *)state)[PAWHETINO_STATE_EXPONENT] ^= 1;
     return number;
@@ -195,7 +195,7 @@ CALL(counts_for_another) {
     return number;
 }
 
-static uint32_t peeks_and_moves(const uint8_t *s, size_t len, uint8_t reader, size_t *cursor, uint64_t answer[4]) {
+static uint32_t peeks_and_moves(const uint8_t *s, size_t len, uint8_t reader, size_t *cursor, uint64_t *answer) {
     uint32_t number = pawhetino_plain_peek(s, len, reader, cursor, answer);
     if (number == 0) *cursor += answer[PAWHETINO_ANSWER_HAS];
     return number;
