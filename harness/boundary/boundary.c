@@ -1,11 +1,11 @@
 /* Arbitrary words, states, readers and buffers through every function of the library, from C, each held to what the header
- * promises (checks.c). A slice lies against a page that cannot be read, at its end or at its start, so that a read of one byte
- * too many is a crash, and a crash or a hang is told with its seed, round and function.
+ * promises (checks.h). Slices and places lie against pages that cannot be read, so that a step beside one is a crash, and a crash
+ * or a hang is told with its seed, round and function. First the header's own constants are held to the library (constants.h).
  *
  *   boundary [--heap] [--rounds N] [SEED..]   so many inputs for each seed; the same seeds give the same inputs
  *   boundary --self-test                      whether faults put in place of the library's functions are found (wrong.c)
  *
- * With --heap a slice lies in memory of just its size from malloc, for tools that watch such memory.
+ * With --heap slices and places lie in memory of just their size from malloc, for tools that watch such memory.
  */
 #include <inttypes.h>
 #include <signal.h>
@@ -16,12 +16,14 @@
 #include <unistd.h>
 
 #include "checks.h"
+#include "constants.h"
 #include "draw.h"
-#include "fence.h"
-#include "wrong.h"
+#include "lay.h"
+#include "self_test.h"
 
-/* Every number that some function can return: 0 to 19. So many inputs of a seed must have brought them all about. */
-#define ALL_NUMBERS UINT32_C(0xFFFFF)
+/* Every number that can be returned: by the checks 0 to 15, by pawhetino_fresh 0 to 14 and 19, by the calls 0, 12 to 14 and 16 to
+ * 19. So many inputs of a seed must have brought them all about. */
+static const struct numbers_seen all_numbers = {0xFFFF, 0x87FFF, 0xF7001};
 enum { ROUNDS_FOR_ALL_NUMBERS = 20000 };
 
 enum { DEFAULT_ROUNDS = 100000, ROUNDS_PER_TIMER = 500 };
@@ -35,9 +37,9 @@ static bool uses_heap;
 
 _Noreturn void report_broken(const struct input *in, const char *promise) {
     fprintf(stderr, "boundary: seed 0x%" PRIX64 ", round %" PRIu64 ", %s: broken: %s\n", seed_now, round_now, running, promise);
-    fprintf(stderr, "boundary: lo 0x%016" PRIX64 " hi 0x%016" PRIX64 " reader %u cursor %zu counts %zu %zu %zu\n", in->lo, in->hi,
-            in->reader, in->cursor, in->counts[0], in->counts[1], in->counts[2]);
-    fprintf(stderr, "boundary: value 0x%02X n %zu %zu cells, %zu bytes:", in->value, in->n, in->cells, in->len);
+    fprintf(stderr, "boundary: reader %u, state", in->reader);
+    for (int i = 0; i < 8; i++) fprintf(stderr, " 0x%" PRIX64, in->state[i]);
+    fprintf(stderr, "\nboundary: value 0x%02X n %zu %zu cells, %zu bytes:", in->value, in->n, in->cells, in->len);
     for (size_t i = 0; i < in->len && i < 64; i++) fprintf(stderr, " %02X", in->s_copy[i]);
     fprintf(stderr, "\n");
     exit(1);
@@ -75,36 +77,19 @@ static void catch_signals(void) {
     for (size_t i = 0; i < sizeof signals / sizeof *signals; i++) sigaction(signals[i], &action, NULL);
 }
 
-static void *on_the_heap(const void *bytes, size_t size) {
-    void *place = malloc(size);
-    if (place == NULL && size > 0) exit(2);
-    if (size > 0) memcpy(place, bytes, size);
-    return place;
-}
-
-static void check_on_the_heap(const struct functions *functions, const struct drawn *drawn) {
-    struct input in = drawn->input;
-    uint8_t *s = on_the_heap(drawn->bytes, in.len);
-    size_t *ends = on_the_heap(drawn->ends, in.cells * sizeof *ends);
-    in.s = s, in.ends = ends;
-    check_all(functions, &in);
-    free(s);
-    free(ends);
-}
-
 /* The input of a round, once against each of the two pages. */
-static void check_round(const struct functions *functions, struct fenced buffer, struct fenced ends) {
+static void check_round(const struct functions *functions) {
     static struct drawn drawn;
     draw(&drawn, seed_now, round_now);
     if (uses_heap) {
-        check_on_the_heap(functions, &drawn);
+        lay_on_the_heap(&drawn.input);
+        check_all(functions, &drawn.input);
+        free_from_the_heap(&drawn.input);
         return;
     }
-    for (int at_the_end = 0; at_the_end < 2; at_the_end++) {
-        struct input in = drawn.input;
-        in.s = laid(buffer, drawn.bytes, in.len, at_the_end);
-        in.ends = laid(ends, drawn.ends, in.cells * sizeof *drawn.ends, at_the_end);
-        check_all(functions, &in);
+    for (int at_end = 0; at_end < 2; at_end++) {
+        lay_against_pages(&drawn.input, at_end);
+        check_all(functions, &drawn.input);
     }
 }
 
@@ -115,12 +100,11 @@ static void start_timer(unsigned seconds) {
 }
 
 void check_seed(const struct functions *functions, uint64_t seed, uint64_t rounds, unsigned seconds) {
-    struct fenced buffer = fence(LONGEST_BUFFER), ends = fence(MOST_CELLS * sizeof(size_t));
     seed_now = seed;
     catch_signals();
     for (round_now = 0; round_now < rounds; round_now++) {
         if (round_now % ROUNDS_PER_TIMER == 0) start_timer(seconds);
-        check_round(functions, buffer, ends);
+        check_round(functions);
     }
     start_timer(0);
 }
@@ -142,6 +126,20 @@ static void run(uint64_t seed, uint64_t rounds) {
            uses_heap ? "on the heap" : "each against two pages");
 }
 
+/* Whether all of these were returned; else those that were are told. */
+static bool were_seen(const char *by, uint32_t seen, uint32_t due) {
+    if (seen == due) return true;
+    printf("boundary: not every number was returned by %s, but those with bits in 0x%" PRIX32 "\n", by, seen);
+    return false;
+}
+
+static bool all_were_seen(void) {
+    bool checks = were_seen("the checks", numbers_seen.by_checks, all_numbers.by_checks);
+    bool fresh = were_seen("pawhetino_fresh", numbers_seen.by_fresh, all_numbers.by_fresh);
+    bool calls = were_seen("the calls", numbers_seen.by_calls, all_numbers.by_calls);
+    return checks && fresh && calls;
+}
+
 int main(int count, char **arguments) {
     uint64_t rounds = DEFAULT_ROUNDS;
     int next = 1;
@@ -154,12 +152,9 @@ int main(int count, char **arguments) {
         rounds = number_of(arguments[next + 1]);
         next += 2;
     }
+    if (!constants_hold()) return 1;
     if (next == count)
         for (size_t i = 0; i < sizeof default_seeds / sizeof *default_seeds; i++) run(default_seeds[i], rounds);
     for (; next < count; next++) run(number_of(arguments[next]), rounds);
-    if (rounds >= ROUNDS_FOR_ALL_NUMBERS && numbers_seen != ALL_NUMBERS) {
-        printf("boundary: not every number from 0 to 19 was returned, but those with bits in 0x%" PRIX32 "\n", numbers_seen);
-        return 1;
-    }
-    return 0;
+    return rounds >= ROUNDS_FOR_ALL_NUMBERS && !all_were_seen();
 }

@@ -10,28 +10,36 @@ struct functions {
     typeof(pawhetino_char_is_digit_const) *char_is_digit_const;
     typeof(pawhetino_is_valid_ascii) *is_valid_ascii;
     typeof(pawhetino_is_digit) *is_digit, *is_digit_separator;
-    typeof(pawhetino_peek) *peek, *next, *next_all;
+    typeof(pawhetino_fresh) *fresh;
+    typeof(pawhetino_peek) *peek, *next, *next_all, *skip_zeros;
     typeof(pawhetino_next_all_column) *next_all_column;
     typeof(pawhetino_read_if) *read_if;
     typeof(pawhetino_read_if_value_cased) *read_if_value_cased;
-    typeof(pawhetino_skip_zeros) *skip_zeros;
     typeof(pawhetino_take_n) *take_n;
-    typeof(pawhetino_take_n_part) *take_n_part;
     typeof(pawhetino_current_count) *current_count;
     typeof(pawhetino_plain_peek) *plain_peek, *plain_next;
 };
 
 extern const struct functions library;
 
-/* What the functions are given, with copies of the two slices from before any call. */
+/* What is lent to the functions besides the slices: a state, an answer and a set, and single numbers. */
+struct places {
+    uint64_t *state, *answer, *set;
+    size_t *numbers[3];
+};
+
+/* The slices are at most so long. */
+enum { LONGEST_BUFFER = 8192, MOST_CELLS = 40 };
+
+/* What the functions are given, with copies of the two slices from before any call. lay.h says where slices and places lie. */
 struct input {
     const uint8_t *s, *s_copy;
     size_t len;
     const size_t *ends, *ends_copy;
     size_t cells;
-    uint64_t lo, hi;
+    struct places lent;
+    uint64_t state[8];
     uint8_t reader;
-    size_t cursor, counts[3];
     uint64_t set[4];
     uint8_t value;
     uint32_t radix;
@@ -41,8 +49,11 @@ struct input {
 /* Every function with this input. The first promise that is broken goes to report_broken. */
 void check_all(const struct functions *functions, const struct input *in);
 
-/* The numbers that the functions have returned so far, each as a bit. */
-extern uint32_t numbers_seen;
+/* The numbers that have been returned so far, each as a bit: by the two checks of a word, by pawhetino_fresh, by the calls. */
+struct numbers_seen {
+    uint32_t by_checks, by_fresh, by_calls;
+};
+extern struct numbers_seen numbers_seen;
 
 /* The function that is running: what a crash or a hang is told by. */
 extern const char *volatile running;

@@ -27,22 +27,22 @@ static uint8_t radix(void) {
 
 /* Any 128 bits; mostly with a likely separator and mantissa radix, since else hardly a byte would be a separator or a digit, and
  * often with nothing else in the upper half, since else hardly a check would come to its later lines. */
-static void draw_word(struct input *in) {
-    in->lo = bits();
-    in->hi = bits();
+static void draw_word(uint64_t *lo, uint64_t *hi) {
+    *lo = bits();
+    *hi = bits();
     if (below(8) == 0) return;
-    in->hi &= below(2) == 0 ? 0 : ~(UINT64_C(0xFF) << 40 | 0xFF);
-    in->hi |= (uint64_t)radix() << 40 | separator();
+    *hi &= below(2) == 0 ? 0 : ~(UINT64_C(0xFF) << 40 | 0xFF);
+    *hi |= (uint64_t)radix() << 40 | separator();
     /* Equal separator and prefix. */
-    if (below(8) == 0) in->hi |= (in->hi & 0xFF) << 24;
+    if (below(8) == 0) *hi |= (*hi & 0xFF) << 24;
     /* Few flags, so that many readers have one or none. */
-    if (below(2) == 0) in->lo &= bits() & bits();
+    if (below(2) == 0) *lo &= bits() & bits();
 }
 
 /* The word's separator, a figure or letter, or any byte. */
 static uint8_t draw_byte(const struct input *in, uint64_t separators) {
     static const uint8_t likely[] = "0000123456789abfzAZ.+-e";
-    if (below(100) < separators) return in->hi & 0xFF;
+    if (below(100) < separators) return in->state[PAWHETINO_STATE_HI] & 0xFF;
     return below(8) == 0 ? (uint8_t)bits() : likely[below(sizeof likely - 1)];
 }
 
@@ -71,15 +71,21 @@ static size_t any_number(size_t bound) {
     }
 }
 
-/* Mostly a state that no call refuses. */
-static void draw_state(struct input *in) {
+/* Mostly a cursor and counts that no call refuses. */
+static void draw_cursor_and_counts(struct input *in) {
     bool admitted = below(10) != 0;
-    in->cursor = admitted ? below(in->len + 1) : any_number(in->len);
-    size_t left = in->cursor;
-    for (int i = 0; i < 3; i++) {
-        in->counts[i] = admitted ? (below(2) == 0 ? 0 : below(left + 1)) : any_number(in->cursor);
-        left -= admitted ? in->counts[i] : 0;
+    uint64_t cursor = admitted ? below(in->len + 1) : any_number(in->len), left = cursor;
+    in->state[PAWHETINO_STATE_CURSOR] = cursor;
+    for (int i = PAWHETINO_STATE_INTEGER; i <= PAWHETINO_STATE_EXPONENT; i++) {
+        in->state[i] = admitted ? (below(2) == 0 ? 0 : below(left + 1)) : any_number(cursor);
+        left -= admitted ? in->state[i] : 0;
     }
+}
+
+/* Any word to be kept, and mostly the edition that there is; others differ from it in any bit or in one. */
+static void draw_kept(struct input *in) {
+    in->state[PAWHETINO_STATE_KEPT] = below(2) == 0 ? 0 : bits();
+    in->state[PAWHETINO_STATE_EDITION] = below(12) != 0 ? 0 : below(4) == 0 ? bits() : UINT64_C(1) << below(64);
 }
 
 /* Mostly ends in order; else any numbers: before the last one, past the buffer, the largest. */
@@ -99,15 +105,16 @@ void draw(struct drawn *drawn, uint64_t seed, uint64_t round) {
     struct input *in = &drawn->input;
     state = seed;
     state = bits() ^ round * UINT64_C(0xD1342543DE82EF95);
-    draw_word(in);
+    draw_word(&in->state[PAWHETINO_STATE_LO], &in->state[PAWHETINO_STATE_HI]);
     draw_buffer(drawn);
-    draw_state(in);
+    draw_cursor_and_counts(in);
+    draw_kept(in);
     draw_ends(drawn);
     in->reader = below(12) == 0 ? (uint8_t)bits() : (uint8_t)below(4);
     for (int i = 0; i < 4; i++) in->set[i] = below(3) == 0 ? 0 : bits();
     in->value = below(2) == 0 && in->len > 0 ? drawn->bytes[below(in->len)] : (uint8_t)bits();
     in->radix = below(4) == 0 ? (uint32_t)bits() : (uint32_t)below(300);
     in->n = any_number(in->len);
-    in->s = in->s_copy = drawn->bytes;
-    in->ends = in->ends_copy = drawn->ends;
+    in->s_copy = drawn->bytes;
+    in->ends_copy = drawn->ends;
 }

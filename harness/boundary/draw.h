@@ -4,10 +4,8 @@
 
 #include "checks.h"
 
-enum { LONGEST_BUFFER = 8192, MOST_CELLS = 40 };
-
 struct drawn {
-    /* Its slices are those below, to be laid elsewhere for the calls. */
+    /* Its slices have their copies below, and are laid elsewhere for the calls. */
     struct input input;
     uint8_t bytes[LONGEST_BUFFER];
     size_t ends[MOST_CELLS];

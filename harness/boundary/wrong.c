@@ -1,15 +1,16 @@
 #include "wrong.h"
 
-#include <stdio.h>
-#include <string.h>
-#include <sys/wait.h>
-#include <unistd.h>
+/* State, answer and set are plain pointers here, since a compiler that knows their length refuses a step beside them. */
+#define CALL(name) static uint32_t name(const uint8_t *s, size_t len, uint8_t reader, uint64_t *state, uint64_t *answer)
+#define ARGUMENTS s, len, reader, state, answer
 
-#define BYTE_CALL(name)                                                                                                     \
-    static uint32_t name(const uint8_t *s, size_t len, uint64_t lo, uint64_t hi, uint8_t reader, size_t *cursor,           \
-                         size_t *integer, size_t *fraction, size_t *exponent, uint8_t *has_byte, uint8_t *byte,            \
-                         size_t *taken, size_t *passed)
-#define ARGUMENTS s, len, lo, hi, reader, cursor, integer, fraction, exponent, has_byte, byte, taken, passed
+#define READ(name) \
+    static uint32_t name(const uint8_t *s, size_t len, uint8_t reader, uint64_t *state, uint64_t *answer, const uint64_t *set)
+
+#define BLOCK(name) \
+    static uint32_t name(const uint8_t *s, size_t len, uint8_t reader, uint64_t *state, uint64_t *answer, size_t n)
+
+#define FRESH(name) static uint32_t name(uint64_t lo, uint64_t hi, uint64_t edition, uint64_t *state)
 
 #define COLUMN(name)                                                                                                        \
     static uint32_t name(const uint8_t *s, size_t len, const size_t *ends, size_t cells, uint64_t lo, uint64_t hi,         \
@@ -17,38 +18,51 @@
 #define COLUMN_ARGUMENTS s, len, ends, cells, lo, hi, reader, taken, passed, digits
 
 /* What is read only to be read. */
-static volatile uint8_t seen;
-static volatile size_t seen_end;
+static volatile uint64_t seen;
 
-BYTE_CALL(writes_behind) {
-    uint32_t number = pawhetino_peek(ARGUMENTS);
-    byte[1] = 0;
-    return number;
+/* Steps beside what is lent, and calls that do not come back. */
+
+CALL(writes_behind_the_answer) {
+    answer[4] = 0;
+    return pawhetino_peek(ARGUMENTS);
 }
 
-BYTE_CALL(writes_before) {
-    uint32_t number = pawhetino_next_all(ARGUMENTS);
-    ((uint8_t *)taken)[-1] = 0;
-    return number;
+CALL(writes_before_the_state) {
+    ((uint8_t *)state)[-1] = 0;
+    return pawhetino_next_all(ARGUMENTS);
 }
 
-BYTE_CALL(reads_past_the_end) {
+CALL(reads_behind_the_state) {
+    seen = state[8];
+    return pawhetino_skip_zeros(ARGUMENTS);
+}
+
+READ(reads_behind_the_set) {
+    seen = set[4];
+    return pawhetino_read_if(ARGUMENTS, set);
+}
+
+CALL(reads_past_the_end) {
     seen = s[len];
     return pawhetino_peek(ARGUMENTS);
 }
 
-BYTE_CALL(reads_before_the_start) {
+CALL(reads_before_the_start) {
     seen = s[-1];
     return pawhetino_next(ARGUMENTS);
 }
 
-BYTE_CALL(changes_the_buffer) {
-    uint32_t number = pawhetino_next(ARGUMENTS);
-    if (len > 0) ((uint8_t *)s)[len - 1] ^= 1;
-    return number;
+COLUMN(reads_past_the_ends) {
+    seen = ends[cells];
+    return pawhetino_next_all_column(COLUMN_ARGUMENTS);
 }
 
-BYTE_CALL(hangs) {
+COLUMN(writes_behind_a_number) {
+    passed[1] = 0;
+    return pawhetino_next_all_column(COLUMN_ARGUMENTS);
+}
+
+CALL(hangs) {
     while (len > 0) seen = s[0];
     return pawhetino_peek(ARGUMENTS);
 }
@@ -60,42 +74,162 @@ static size_t goes_deep(size_t depth) {
     return depth == 0 ? 0 : goes_deep(depth - 1) + here[0];
 }
 
-BYTE_CALL(uses_up_the_stack) {
-    seen_end = goes_deep(SIZE_MAX);
+CALL(uses_up_the_stack) {
+    seen = goes_deep(SIZE_MAX);
     return pawhetino_peek(ARGUMENTS);
 }
 
-BYTE_CALL(answers_23) {
-    uint32_t number = pawhetino_next(ARGUMENTS);
-    return number == 17 ? 23 : number;
-}
+/* Writes to what is lent to be read. */
 
-BYTE_CALL(changes_a_refused_state) {
-    uint32_t number = pawhetino_next_all(ARGUMENTS);
-    if (number != 0) *cursor = 0;
+CALL(changes_the_buffer) {
+    uint32_t number = pawhetino_next(ARGUMENTS);
+    if (len > 0) ((uint8_t *)s)[len - 1] ^= 1;
     return number;
 }
 
-BYTE_CALL(takes_past_the_end) {
-    uint32_t number = pawhetino_next(ARGUMENTS);
-    if (number == 0 && *cursor == len) *cursor = len + 1, *taken = 1, *passed = 0, *has_byte = 1;
+READ(changes_the_set) {
+    uint32_t number = pawhetino_read_if(ARGUMENTS, set);
+    ((uint64_t *)set)[3] ^= 1;
     return number;
-}
-
-BYTE_CALL(counts_for_another) {
-    uint32_t number = pawhetino_next(ARGUMENTS);
-    if (number == 0 && reader == 0 && *taken == 1) *fraction += 1;
-    return number;
-}
-
-COLUMN(reads_past_the_ends) {
-    seen_end = ends[cells];
-    return pawhetino_next_all_column(COLUMN_ARGUMENTS);
 }
 
 COLUMN(changes_the_ends) {
     uint32_t number = pawhetino_next_all_column(COLUMN_ARGUMENTS);
     if (cells > 0) ((size_t *)ends)[0] += 1;
+    return number;
+}
+
+static uint32_t counts_into_the_state(const uint8_t *s, size_t len, uint8_t reader, const uint64_t *state, size_t *count) {
+    uint32_t number = pawhetino_current_count(s, len, reader, state, count);
+    ((uint64_t *)state)[PAWHETINO_STATE_EXPONENT] ^= 1;
+    return number;
+}
+
+/* Wrong numbers. */
+
+static uint32_t invents_a_number(uint64_t lo, uint64_t hi) {
+    uint32_t number = pawhetino_format_error(lo, hi);
+    return number == 4 ? 15 : number;
+}
+
+CALL(answers_23) {
+    uint32_t number = pawhetino_next(ARGUMENTS);
+    return number == 17 ? 23 : number;
+}
+
+CALL(ignores_the_edition) {
+    uint64_t edition = state[PAWHETINO_STATE_EDITION];
+    state[PAWHETINO_STATE_EDITION] = 0;
+    uint32_t number = pawhetino_next(ARGUMENTS);
+    state[PAWHETINO_STATE_EDITION] = edition;
+    return number;
+}
+
+CALL(tests_the_edition_after_the_cursor) {
+    uint32_t number = pawhetino_peek(ARGUMENTS);
+    return number == 19 && reader <= 3 && state[PAWHETINO_STATE_CURSOR] > len ? 16 : number;
+}
+
+FRESH(makes_any_edition) {
+    uint32_t number = pawhetino_fresh(lo, hi, 0, state);
+    if (number == 0) state[PAWHETINO_STATE_EDITION] = edition;
+    return number;
+}
+
+FRESH(tests_the_word_before_the_edition) {
+    uint32_t number = pawhetino_format_error(lo, hi);
+    return number != 0 ? number : pawhetino_fresh(lo, hi, edition, state);
+}
+
+/* Wrong states. */
+
+FRESH(writes_though_refused) {
+    uint32_t number = pawhetino_fresh(lo, hi, edition, state);
+    if (number != 0) state[PAWHETINO_STATE_CURSOR] = 0;
+    return number;
+}
+
+FRESH(leaves_word_6) {
+    uint64_t kept = state[PAWHETINO_STATE_KEPT];
+    uint32_t number = pawhetino_fresh(lo, hi, edition, state);
+    state[PAWHETINO_STATE_KEPT] = kept;
+    return number;
+}
+
+CALL(clears_word_6) {
+    state[PAWHETINO_STATE_KEPT] = 0;
+    return pawhetino_peek(ARGUMENTS);
+}
+
+CALL(swaps_two_counts) {
+    uint32_t number = pawhetino_next(ARGUMENTS);
+    uint64_t integer = state[PAWHETINO_STATE_INTEGER];
+    if (number != 0 || reader != PAWHETINO_EXPONENT) return number;
+    state[PAWHETINO_STATE_INTEGER] = state[PAWHETINO_STATE_FRACTION];
+    state[PAWHETINO_STATE_FRACTION] = integer;
+    return number;
+}
+
+CALL(changes_a_refused_state) {
+    uint32_t number = pawhetino_next_all(ARGUMENTS);
+    if (number != 0) state[PAWHETINO_STATE_CURSOR] = 0;
+    return number;
+}
+
+CALL(takes_past_the_end) {
+    uint32_t number = pawhetino_next(ARGUMENTS);
+    if (number == 0 && state[PAWHETINO_STATE_CURSOR] == len) state[PAWHETINO_STATE_CURSOR] += 1;
+    return number;
+}
+
+CALL(counts_every_byte) {
+    uint64_t before = state[PAWHETINO_STATE_INTEGER];
+    uint32_t number = pawhetino_next(ARGUMENTS);
+    if (number == 0 && reader == 0) state[PAWHETINO_STATE_INTEGER] = before + answer[PAWHETINO_ANSWER_TAKEN];
+    return number;
+}
+
+CALL(counts_for_another) {
+    uint32_t number = pawhetino_skip_zeros(ARGUMENTS);
+    if (number == 0 && reader == 0) state[PAWHETINO_STATE_FRACTION] += answer[PAWHETINO_ANSWER_TAKEN];
+    return number;
+}
+
+static uint32_t peeks_and_moves(const uint8_t *s, size_t len, uint8_t reader, size_t *cursor, uint64_t *answer) {
+    uint32_t number = pawhetino_plain_peek(s, len, reader, cursor, answer);
+    if (number == 0) *cursor += answer[PAWHETINO_ANSWER_HAS];
+    return number;
+}
+
+/* Wrong answers. */
+
+CALL(tells_a_byte_at_the_end) {
+    uint32_t number = pawhetino_peek(ARGUMENTS);
+    if (number == 0 && answer[PAWHETINO_ANSWER_HAS] == 0) answer[PAWHETINO_ANSWER_BYTE] = 0;
+    return number;
+}
+
+CALL(tells_zeros_though_refused) {
+    uint32_t number = pawhetino_skip_zeros(ARGUMENTS);
+    if (number != 0) answer[PAWHETINO_ANSWER_ZEROS] = 0;
+    return number;
+}
+
+CALL(takes_though_refused) {
+    uint32_t number = pawhetino_next(ARGUMENTS);
+    if (number != 0) answer[PAWHETINO_ANSWER_TAKEN] = 1;
+    return number;
+}
+
+BLOCK(takes_a_block_too_long) {
+    uint32_t number = pawhetino_take_n(ARGUMENTS, n);
+    if (number == 0 && answer[PAWHETINO_ANSWER_HAS] == 1 && n >= len) answer[PAWHETINO_ANSWER_TAKEN] = n;
+    return number;
+}
+
+BLOCK(begins_a_block_at_0) {
+    uint32_t number = pawhetino_take_n(ARGUMENTS, n);
+    if (number == 0 && answer[PAWHETINO_ANSWER_HAS] == 1) answer[PAWHETINO_ANSWER_START] = 0;
     return number;
 }
 
@@ -111,95 +245,43 @@ COLUMN(sums_though_refused) {
     return number;
 }
 
-static uint32_t takes_a_block_too_long(const uint8_t *s, size_t len, uint64_t lo, uint64_t hi, uint8_t reader, size_t *cursor,
-                                       size_t *integer, size_t *fraction, size_t *exponent, uint8_t *has_block, size_t *taken,
-                                       size_t *passed, size_t n) {
-    uint32_t number = pawhetino_take_n(s, len, lo, hi, reader, cursor, integer, fraction, exponent, has_block, taken, passed, n);
-    if (number == 0 && *has_block == 1 && n >= len) *taken = n;
-    return number;
-}
-
-static uint32_t invents_a_number(uint64_t lo, uint64_t hi) {
-    uint32_t number = pawhetino_format_error(lo, hi);
-    return number == 4 ? 15 : number;
-}
-
-struct fault {
-    const char *what;
-    struct functions functions;
-    const char *told;
+const struct fault faults[] = {
+    {"a write behind the answer", {.peek = writes_behind_the_answer}, "pawhetino_peek: crashed"},
+    {"a write before the state", {.next_all = writes_before_the_state}, "pawhetino_next_all: crashed"},
+    {"a read behind the state", {.skip_zeros = reads_behind_the_state}, "pawhetino_skip_zeros: crashed"},
+    {"a read behind the set", {.read_if = reads_behind_the_set}, "pawhetino_read_if: crashed"},
+    {"a read past the buffer", {.peek = reads_past_the_end}, "pawhetino_peek: crashed"},
+    {"a read before the buffer", {.next = reads_before_the_start}, "pawhetino_next: crashed"},
+    {"a read past the ends", {.next_all_column = reads_past_the_ends}, "pawhetino_next_all_column: crashed"},
+    {"a write behind a number", {.next_all_column = writes_behind_a_number}, "pawhetino_next_all_column: crashed"},
+    {"a call that does not end", {.peek = hangs}, "pawhetino_peek: does not end"},
+    {"a call without end on the stack", {.peek = uses_up_the_stack}, "pawhetino_peek: crashed"},
+    {"a write to the buffer", {.next = changes_the_buffer}, "pawhetino_next: broken: the buffer stays as it is"},
+    {"a write to the set", {.read_if = changes_the_set}, "pawhetino_read_if: broken: the set stays as it is"},
+    {"a write to the ends", {.next_all_column = changes_the_ends}, "broken: the ends stay as they are"},
+    {"a count's write to the state", {.current_count = counts_into_the_state}, "broken: the state stays as it is"},
+    {"a number of no meaning", {.format_error = invents_a_number}, "pawhetino_format_error: broken: a documented number"},
+    {"the number 23", {.next = answers_23}, "pawhetino_next: broken: the number is the one that is due"},
+    {"an edition ignored", {.next = ignores_the_edition}, "pawhetino_next: broken: the number is the one that is due"},
+    {"the cursor before the edition", {.peek = tests_the_edition_after_the_cursor}, "pawhetino_peek: broken: the number is"},
+    {"a fresh state of any edition", {.fresh = makes_any_edition}, "pawhetino_fresh: broken: the number is"},
+    {"the word before the edition", {.fresh = tests_the_word_before_the_edition}, "pawhetino_fresh: broken: the number is"},
+    {"a refused fresh state", {.fresh = writes_though_refused}, "broken: a refused fresh state is not written"},
+    {"a fresh state's word left", {.fresh = leaves_word_6}, "broken: a fresh state is the word, zeros and the edition"},
+    {"a kept word cleared", {.peek = clears_word_6}, "pawhetino_peek: broken: words 0, 1, 6 and 7 of the state"},
+    {"two words of the state swapped", {.next = swaps_two_counts}, "broken: another reader's count stays"},
+    {"a refused call that moves", {.next_all = changes_a_refused_state}, "broken: a refused call leaves the state"},
+    {"a cursor past the end", {.next = takes_past_the_end}, "broken: the cursor stays within the buffer"},
+    {"every byte counted", {.next = counts_every_byte}, "broken: a reader with any flag counts a digit"},
+    {"another reader's count", {.skip_zeros = counts_for_another}, "broken: another reader's count stays"},
+    {"a plain peek that moves", {.plain_peek = peeks_and_moves}, "broken: the cursor moves past a byte that is taken"},
+    {"a byte told at the end", {.peek = tells_a_byte_at_the_end}, "broken: without a byte its word stays as it was"},
+    {"a refused call's zeros", {.skip_zeros = tells_zeros_though_refused}, "broken: a refused call leaves word 1"},
+    {"a refused call's take", {.next = takes_though_refused}, "broken: a refused call answers 0"},
+    {"a block too long", {.take_n = takes_a_block_too_long}, "pawhetino_take_n: broken: the cursor moves by"},
+    {"a block's place", {.take_n = begins_a_block_at_0}, "pawhetino_take_n: broken: a block begins at the cursor"},
+    {"a column's digit lost", {.next_all_column = loses_a_digit}, "broken: the sums are those of pawhetino_next_all"},
+    {"a refused column's sum", {.next_all_column = sums_though_refused}, "broken: the sums are those of"},
 };
 
-/* Short, since the functions with faults do not take long either. */
-enum { ROUNDS = 3000, SECONDS = 2 };
-
-/* Whether a process that checks the functions with the fault ends with status 1 and says the words. */
-static bool is_found(const struct fault *fault) {
-    int ends[2];
-    if (pipe(ends) != 0) return false;
-    pid_t child = fork();
-    if (child == 0) {
-        dup2(ends[1], STDERR_FILENO);
-        close(ends[0]);
-        check_seed(&fault->functions, 1, ROUNDS, SECONDS);
-        _exit(0);
-    }
-    close(ends[1]);
-    char told[4096];
-    size_t length = 0;
-    for (ssize_t more; length < sizeof told - 1 && (more = read(ends[0], told + length, sizeof told - 1 - length)) > 0;)
-        length += (size_t)more;
-    told[length] = 0;
-    close(ends[0]);
-    int status = 0;
-    bool ended = child > 0 && waitpid(child, &status, 0) == child && WIFEXITED(status) && WEXITSTATUS(status) == 1;
-    bool found = ended && strstr(told, fault->told) != NULL;
-    printf("boundary: self-test, %s: %s\n", fault->what, found ? "found" : "NOT FOUND");
-    if (!found) printf("    told, with status %d: %s\n", status, told);
-    return found;
-}
-
-/* The library with one function replaced. */
-#define WITH(function, fault) with_##function(fault)
-#define REPLACING(function)                                                  \
-    static struct functions with_##function(typeof(library.function) other) { \
-        struct functions functions = library;                                \
-        functions.function = other;                                          \
-        return functions;                                                    \
-    }
-REPLACING(peek)
-REPLACING(next)
-REPLACING(next_all)
-REPLACING(next_all_column)
-REPLACING(take_n)
-REPLACING(format_error)
-
-int self_test(void) {
-    const struct fault faults[] = {
-        {"a write behind a place", WITH(peek, writes_behind), "pawhetino_peek: broken: nothing is written beside a place"},
-        {"a write before a place", WITH(next_all, writes_before), "pawhetino_next_all: broken: nothing is written beside"},
-        {"a read past the buffer", WITH(peek, reads_past_the_end), "pawhetino_peek: crashed"},
-        {"a read before the buffer", WITH(next, reads_before_the_start), "pawhetino_next: crashed"},
-        {"a write to the buffer", WITH(next, changes_the_buffer), "pawhetino_next: broken: the buffer stays as it is"},
-        {"a call that does not end", WITH(peek, hangs), "pawhetino_peek: does not end"},
-        {"a call without end on the stack", WITH(peek, uses_up_the_stack), "pawhetino_peek: crashed"},
-        {"the number 23", WITH(next, answers_23), "pawhetino_next: broken: the number is the one that is due"},
-        {"a refused call that moves", WITH(next_all, changes_a_refused_state), "broken: a refused call leaves the state"},
-        {"a cursor past the end", WITH(next, takes_past_the_end), "broken: the cursor stays within the buffer"},
-        {"another reader's count", WITH(next, counts_for_another), "broken: counts grow as told"},
-        {"a read past the ends", WITH(next_all_column, reads_past_the_ends), "pawhetino_next_all_column: crashed"},
-        {"a write to the ends", WITH(next_all_column, changes_the_ends), "broken: the ends stay as they are"},
-        {"a column's digit lost", WITH(next_all_column, loses_a_digit), "broken: the sums are those of pawhetino_next_all"},
-        {"a refused column's sum", WITH(next_all_column, sums_though_refused), "broken: the sums are those of"},
-        {"a block too long", WITH(take_n, takes_a_block_too_long), "pawhetino_take_n: broken: the cursor moves by"},
-        {"a number of no meaning", WITH(format_error, invents_a_number), "pawhetino_format_error: broken: a documented number"},
-    };
-    size_t all = sizeof faults / sizeof *faults, found = 0;
-    fflush(stdout);
-    for (size_t i = 0; i < all; i++) {
-        found += is_found(&faults[i]);
-        fflush(stdout);
-    }
-    printf("boundary: self-test: %zu of %zu faults found\n", found, all);
-    return found != all;
-}
+const size_t fault_count = sizeof faults / sizeof *faults;

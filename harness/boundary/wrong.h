@@ -1,13 +1,17 @@
-/* A test of the checks: faults in place of the library's functions. */
+/* Faults in place of the library's functions. */
 #ifndef WRONG_H
 #define WRONG_H
 
 #include "checks.h"
 
-/* Every input of a seed; a function that computes for so many seconds is taken to hang. */
-void check_seed(const struct functions *functions, uint64_t seed, uint64_t rounds, unsigned seconds);
+/* What is put in place, with all else NULL, and the words by which it must be told. */
+struct fault {
+    const char *what;
+    struct functions wrong;
+    const char *told;
+};
 
-/* 0 where every fault is found, each in a process of its own, and told by the words that belong to it. */
-int self_test(void);
+extern const struct fault faults[];
+extern const size_t fault_count;
 
 #endif
