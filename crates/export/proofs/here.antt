@@ -2,3 +2,4 @@
 pub mod CountedReaders
 pub mod Tests
 pub mod Sight
+pub mod Calls

@@ -1,19 +1,22 @@
-// The quick way of the calls of one byte: most of them find a byte that is no separator under the cursor of a counted reader, and that
-// byte is seen where it is. Whatever else there is, the general call looks into.
+// The quick way of the calls of one byte: most of them find a byte that is no separator under the cursor of a counted reader, or the end,
+// and nothing is passed there. Whatever else there is, the reader's own call looks into.
 ghost use mathlib.Core.Path.{_≡_};
+ghost use mathlib.Core.List.{[], _∷_};
 ghost use Prim.Native.Nat.{_+_, _/_, _<_, _≤_, _^_};
 ghost use lib.Dec.{leb};
 ghost use lib.ListN.{getD};
 ghost use Rattle.word.specs.Word.{mantissaRadix};
 ghost use Rattle.reader.specs.Reading.{hasAnyFlag, isConsecutiveAlone};
+ghost use Rattle.export.specs.State.{stateIn, stateWords};
 ghost use Rattle.export.specs.Code.Here.{hereOf, ownFlags, wordsPast};
 use word::format_flags::Format;
 use word::format_flags::bit_at;
 
-// What is under the cursor.
+// What is under the cursor of a reader that counts and is not refused, on a state of a known edition: a byte that is no separator, the
+// end, or something else; and something else where that is not so.
 pub enum Here {
-    // A byte that is no separator, where a reader of a known edition that counts and is not refused sees it.
     Byte(u8),
+    End,
     Other,
 }
 
@@ -58,7 +61,7 @@ pub(crate) fn radix_of(format: Format) -> u8
     (format.mantissa_radix() % 256) as u8
 }
 
-pub(crate) fn byte_here(s: &[u8], reader: u8, state: &[u64; 8]) -> Here
+pub(crate) fn found_here(s: &[u8], reader: u8, state: &[u64; 8]) -> Here
     ensures { λ r. ⌜ r ≡ hereOf reader (now (state .entry)) (now (s .entry)) ⌝ }
 {
     let edition = state[7];
@@ -75,8 +78,11 @@ pub(crate) fn byte_here(s: &[u8], reader: u8, state: &[u64; 8]) -> Here
         return Here::Other;
     }
     let at = cursor as usize;
-    if s.len() <= at {
+    if s.len() < at {
         return Here::Other;
+    }
+    if s.len() == at {
+        return Here::End;
     }
     let b = s[at];
     let hi = state[1];
@@ -85,6 +91,33 @@ pub(crate) fn byte_here(s: &[u8], reader: u8, state: &[u64; 8]) -> Here
         return Here::Other;
     }
     Here::Byte(b)
+}
+
+// Writes the words that are there: nothing is compiled of it, and the contracts of the calls name all eight.
+pub(crate) fn keep(w: &mut [u64; 8])
+    ensures { λ _. ⌜ now (w .exit) ≡ stateWords (now (w .entry)) (stateIn (now (w .entry))) ⌝ }
+{
+    let lo = w[0];
+    let hi = w[1];
+    let cursor = w[2];
+    let integer = w[3];
+    let fraction = w[4];
+    let exponent = w[5];
+    let kept = w[6];
+    let edition = w[7];
+    *w = [lo, hi, cursor, integer, fraction, exponent, kept, edition];
+}
+
+// Answers that there is no byte, and that nothing is taken or passed.
+pub(crate) fn answer_none(state: &mut [u64; 8], answer: &mut [u64; 4]) -> u32
+    ensures number { λ r. ⌜ r ≡ 0 ⌝ }
+    ensures moved { λ _. ⌜ now (state .exit) ≡ stateWords (now (state .entry)) (stateIn (now (state .entry))) ⌝ }
+    ensures written { λ _. ⌜ now (answer .exit) ≡ (0 ∷ getD (now (answer .entry)) 1 0 ∷ 0 ∷ 0 ∷ []) ⌝ }
+{
+    let old = answer[1];
+    *answer = [0, old, 0, 0];
+    keep(&mut *state);
+    0
 }
 
 // Moves the cursor past a byte, and raises the reader's own count by one where it is counted.

@@ -4,7 +4,8 @@ ghost use Rattle.export.specs.State.{stateWords};
 ghost use Rattle.export.specs.Answer.{byteWords};
 ghost use Rattle.export.specs.Calls.{takenBy};
 use crate::here::Here;
-use crate::here::byte_here;
+use crate::here::answer_none;
+use crate::here::found_here;
 use crate::here::has_any;
 use crate::here::own_bits;
 use crate::here::put_past;
@@ -17,7 +18,7 @@ use crate::state::reader_on;
 use crate::state::state_in;
 use reader::skip::next;
 use reader::state::Named;
-use word::digit::char_is_digit_by_range;
+use word::digit::char_is_digit_by_table;
 use word::format_flags::Format;
 
 // As the reader answers it.
@@ -56,7 +57,7 @@ pub extern "C" fn pawhetino_next(
     if 2 < reader {
         return next_any(&s[..], reader, &mut *state, &mut *answer);
     }
-    let here = byte_here(s, reader, &*state);
+    let here = found_here(s, reader, &*state);
     match here {
         Here::Byte(b) => {
             let lo = state[0];
@@ -64,13 +65,14 @@ pub extern "C" fn pawhetino_next(
             let cursor = state[2];
             let format = Format { lo, hi };
             let counted = has_any(own_bits(lo, reader))
-                & char_is_digit_by_range(b, radix_of(format));
+                & char_is_digit_by_table(b, radix_of(format));
             let past = cursor + 1;
             let byte = wide(b);
             *answer = [1, byte, 1, 0];
             put_past(&mut *state, reader, counted, past);
             0
         }
+        Here::End => answer_none(&mut *state, &mut *answer),
         Here::Other => next_any(&s[..], reader, &mut *state, &mut *answer),
     }
 }

@@ -153,7 +153,10 @@ pub extern "C" fn pawhetino_next_all(
     let hi = state[1];
     let format = Format { lo, hi };
     let separator = format.digit_separator();
-    if (separator == 0) | !has_internal(format, reader) {
+    if separator == 0 {
+        return next_all_any(&s[..], reader, &mut *state, &mut *answer);
+    }
+    if !has_internal(format, reader) {
         return next_all_any(&s[..], reader, &mut *state, &mut *answer);
     }
     let grouped = grouped_cell(s, separator, radix_of(format));
@@ -164,11 +167,12 @@ pub extern "C" fn pawhetino_next_all(
     let passed = grouped.passed as u64;
     let end = s.len() as u64;
     let taken = end - passed;
+    let old = answer[1];
+    *answer = [0, old, taken, passed];
     let by_integer = own(reader, 0, count);
     let by_fraction = own(reader, 1, count);
     let by_exponent = own(reader, 2, count);
     let kept = state[6];
-    let old = answer[1];
     *state = [
         lo,
         hi,
@@ -179,6 +183,5 @@ pub extern "C" fn pawhetino_next_all(
         kept,
         edition,
     ];
-    *answer = [0, old, taken, passed];
     0
 }

@@ -4,7 +4,9 @@ ghost use Rattle.export.specs.State.{stateWords};
 ghost use Rattle.export.specs.Answer.{byteWords};
 ghost use Rattle.export.specs.Calls.{peekedBy};
 use crate::here::Here;
-use crate::here::byte_here;
+use crate::here::answer_none;
+use crate::here::found_here;
+use crate::here::keep;
 use crate::reply::of_answer;
 use crate::reply::put;
 use crate::reply::refused;
@@ -50,22 +52,15 @@ pub extern "C" fn pawhetino_peek(
     if 2 < reader {
         return peek_any(&s[..], reader, &mut *state, &mut *answer);
     }
-    let here = byte_here(s, reader, &*state);
+    let here = found_here(s, reader, &*state);
     match here {
         Here::Byte(b) => {
             let byte = wide(b);
-            let lo = state[0];
-            let hi = state[1];
-            let cursor = state[2];
-            let integer = state[3];
-            let fraction = state[4];
-            let exponent = state[5];
-            let kept = state[6];
-            let edition = state[7];
-            *state = [lo, hi, cursor, integer, fraction, exponent, kept, edition];
             *answer = [1, byte, 0, 0];
+            keep(&mut *state);
             0
         }
+        Here::End => answer_none(&mut *state, &mut *answer),
         Here::Other => peek_any(&s[..], reader, &mut *state, &mut *answer),
     }
 }

@@ -1,17 +1,17 @@
--- Whether a byte that is no separator is here, by the tests that the code makes, in their order: for `byte_here`. Assumes nothing.
+-- What is under the cursor, by the tests that the code makes, in their order: for `found_here`. Assumes nothing.
 use mathlib.Core.Path.{_≡_, _∙_, refl, sym, ap}
-use mathlib.Core.Bool.{Bool, true, false, cond, not, _&&_, _||_, and-false}
+use mathlib.Core.Bool.{Bool, true, false, cond, not, _&&_, _||_}
 use mathlib.Core.List.{List}
 use Prim.Native.Nat.{ℕ, _+_, _/_, _^_, _<_, _≤_}
 use lib.Dec.{eqb, leb, ltb}
 use lib.ListN.{length, getD}
-use borrow.Author.Tests.{le-leb, lt-leb, ltb-true, ltb-false, lt-ltb, le-ltb, eq-eqb, ne-eqb, not-true, not-false, leb-true}
+use borrow.Author.Tests.{le-leb, lt-leb, ltb-true, ltb-false, lt-ltb, le-ltb, eq-eqb, ne-eqb, leb-true}
 use Rattle.word.specs.Word.{digitSeparator}
 use Rattle.reader.specs.declared.rule.Flags.{Flags}
 use Rattle.reader.specs.Reading.{flagsAt, isConsecutiveAlone}
-use Rattle.export.specs.declared.here.Here.the-variants.{Byte, Other}
+use Rattle.export.specs.declared.here.Here.the-variants.{Byte, End, Other}
 use Rattle.export.specs.State.{stateIn, isEdition}
-use Rattle.export.specs.Code.Here.{ownFlags, isServed, isClear, isOther, hereOf}
+use Rattle.export.specs.Code.Here.{ownFlags, isServed, isClear, underCursor, hereOf}
 use Rattle.export.proofs.here.CountedReaders.{own-flags}
 
 -- a test and another's failing, by the test that stops where one of them says so
@@ -59,15 +59,20 @@ module _ (n : ℕ) (w s : List ℕ) where
     here-unclear t = rw (served-by, served, clear-by, t)
 
     module _ (clear : (alone || not fit) ≡ false) where
-      by-byte : hereOf n w s ≡ cond (isOther w s) (Byte (getD s (getD w 2 0) 0)) Other
+      by-place : hereOf n w s ≡ underCursor w s
       unfolding hereOf
-      by-byte = rw (served-by, served, clear-by, clear)
+      by-place = rw (served-by, served, clear-by, clear)
 
-      pub here-ended : length s ≤ getD w 2 0 → Other ≡ hereOf n w s
-      here-ended out = rw (by-byte, le-ltb (getD w 2 0) (length s) out)
+      pub here-outside : length s < getD w 2 0 → Other ≡ hereOf n w s
+      here-outside out = rw (by-place, lt-ltb (length s) (getD w 2 0) out)
 
-      pub here-separator : getD s (getD w 2 0) 0 ≡ digitSeparator (stateIn w .format) → Other ≡ hereOf n w s
-      here-separator e = rw (by-byte, eq-eqb _ _ e, and-false (ltb (getD w 2 0) (length s)))
+      module _ (within : getD w 2 0 ≤ length s) where
+        pub here-end : length s ≡ getD w 2 0 → End ≡ hereOf n w s
+        here-end e = rw (by-place, le-ltb (length s) (getD w 2 0) within, eq-eqb (length s) (getD w 2 0) e)
 
-      pub here-byte : getD w 2 0 < length s → (getD s (getD w 2 0) 0 ≡ digitSeparator (stateIn w .format) → ⊥) → Byte (getD s (getD w 2 0) 0) ≡ hereOf n w s
-      here-byte inside differ = rw (by-byte, lt-ltb (getD w 2 0) (length s) inside, ne-eqb _ _ differ)
+        module _ (more : length s ≡ getD w 2 0 → ⊥) where
+          pub here-separator : getD s (getD w 2 0) 0 ≡ digitSeparator (stateIn w .format) → Other ≡ hereOf n w s
+          here-separator e = rw (by-place, le-ltb (length s) (getD w 2 0) within, ne-eqb (length s) (getD w 2 0) more, eq-eqb _ _ e)
+
+          pub here-byte : (getD s (getD w 2 0) 0 ≡ digitSeparator (stateIn w .format) → ⊥) → Byte (getD s (getD w 2 0) 0) ≡ hereOf n w s
+          here-byte differ = rw (by-place, le-ltb (length s) (getD w 2 0) within, ne-eqb (length s) (getD w 2 0) more, ne-eqb _ _ differ)

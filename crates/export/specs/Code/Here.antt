@@ -1,4 +1,4 @@
--- A byte that is no separator under the cursor of a counted reader that is not refused (src/here.rt). Assumes nothing.
+-- What is under the cursor of a counted reader that is not refused, where nothing is passed (src/here.rt). Assumes nothing.
 use Prim.Native.Nat.{ℕ, _+_}
 use mathlib.Core.Bool.{Bool, cond, not, _&&_}
 use mathlib.Core.List.{List, [], _∷_}
@@ -11,25 +11,29 @@ use Rattle.reader.specs.declared.rule.Flags.{Flags}
 use Rattle.reader.specs.State.{countSum}
 use Rattle.reader.specs.Reading.{flagsAt, isConsecutiveAlone}
 use Rattle.export.specs.declared.here.Here.{Here}
-use Rattle.export.specs.declared.here.Here.the-variants.{Byte, Other}
+use Rattle.export.specs.declared.here.Here.the-variants.{Byte, End, Other}
 use Rattle.export.specs.State.{stateIn, isEdition}
 
 -- the flags of a counted reader in the lower half, once that is shifted down by the reader's number
 abbrev pub ownFlags : ℕ → Flags
 ownFlags own = record { internal = bit own 32; leading = bit own 35; trailing = bit own 38; consecutive = bit own 41 }
 
--- the reader counts, and its edition is known; its flags and the state's counts are not refused; the byte is no separator
+-- the reader counts, and its edition is known; its flags and the state's counts are not refused
 abbrev pub isServed : ℕ → List ℕ → Bool
 isServed n w = leb n 2 && isEdition (getD w 7 0)
 
 abbrev pub isClear : ℕ → List ℕ → Bool
 isClear n w = not (isConsecutiveAlone (flagsAt (stateIn w .format) n)) && leb (countSum (stateIn w)) (stateIn w .cursor)
 
-abbrev pub isOther : List ℕ → List ℕ → Bool
-isOther w s = ltb (stateIn w .cursor) (length s) && not (eqb (getD s (stateIn w .cursor) 0) (digitSeparator (stateIn w .format)))
+-- a byte that is no separator, or the end
+abbrev pub underCursor : List ℕ → List ℕ → Here
+underCursor w s =
+    cond (ltb (length s) (getD w 2 0)) Other
+    (cond (eqb (length s) (getD w 2 0)) End
+    (cond (eqb (getD s (getD w 2 0) 0) (digitSeparator (stateIn w .format))) Other (Byte (getD s (getD w 2 0) 0))))
 
 unfoldable pub hereOf : ℕ → List ℕ → List ℕ → Here
-hereOf n w s = cond (isServed n w && isClear n w && isOther w s) (Byte (getD s (stateIn w .cursor) 0)) Other
+hereOf n w s = cond (isServed n w && isClear n w) (underCursor w s) Other
 
 -- the words one byte on, where the count of the reader n is raised if the byte is counted
 abbrev pub wordsPast : List ℕ → ℕ → Bool → List ℕ

@@ -1,7 +1,9 @@
--- `export::next::pawhetino_next` meets its contract: a byte that is no separator is taken by numbers, anything else is left to the reader. Assumes nothing.
+-- `export::next::pawhetino_next` meets its contract: a byte that is no separator is taken by numbers, at the end nothing is, anything else
 use mathlib.Core.Path.{refl}
 use native.Mathlib.Omega.{arith}
-use Rattle.export.proofs.here.Sight.{sight, next-words}
+use Rattle.export.proofs.here.Sight.{byte-inside, byte-sight, end-sight}
+use Rattle.export.proofs.here.Calls.{next-words, taken-end}
+-- is left to the reader. Assumes nothing.
 use borrow.Author.Needs.{needs}
 use Rattle.export.proofs.next.pawhetino_next.Statement.{statement}
 use Rattle.export.proofs.next.pawhetino_next.Tie as tie
@@ -12,8 +14,8 @@ next-any-requires c κs = search needs
 returns : tie.Need-returns
 returns c = search needs
 
-byte-here-requires : tie.Need-byte-here-requires
-byte-here-requires c κs = search needs
+found-here-requires : tie.Need-found-here-requires
+found-here-requires c κs = search needs
 
 enum-known-here : tie.Need-enum-known-here
 enum-known-here c = search needs
@@ -30,7 +32,8 @@ element-copy-out-cursor c = search needs
 own-bits-requires : tie.Need-own-bits-requires
 own-bits-requires c κs =
     let a = c .before .before .before .before .before .before .before .before .before .before .args in
-    sight (a .reader) (a .state .now) (a .s .now) _ _ (c .before .before .before .before .before .before .byte-here .ensures) (c .before .before .before .before .here .given .1) .low
+    let here = byte-sight (a .reader) (a .state .now) (a .s .now) _ (c .before .before .before .before .before .before .found-here .ensures) _ (c .before .before .before .before .here .given .1) in
+    here .low
 
 has-any-requires : tie.Need-has-any-requires
 has-any-requires c κs = search needs
@@ -38,14 +41,14 @@ has-any-requires c κs = search needs
 radix-of-requires : tie.Need-radix-of-requires
 radix-of-requires c κs = search needs
 
-char-is-digit-by-range-requires : tie.Need-char-is-digit-by-range-requires
-char-is-digit-by-range-requires c κs = search needs
+char-is-digit-by-table-requires : tie.Need-char-is-digit-by-table-requires
+char-is-digit-by-table-requires c κs = search needs
 
 add-past : tie.Need-add-past
 add-past c =
     let a = c .before .before .before .before .before .before .before .before .before .before .before .before .before .before .args in
-    let here = sight (a .reader) (a .state .now) (a .s .now) _ _ (c .before .before .before .before .before .before .before .before .before .before .byte-here .ensures) (c .before .before .before .before .before .before .before .before .here .given .1) in
-    omega (arith, here .inside)
+    let inside = byte-inside (a .reader) (a .state .now) (a .s .now) _ (c .before .before .before .before .before .before .before .before .before .before .found-here .ensures) _ (c .before .before .before .before .before .before .before .before .here .given .1) in
+    omega (arith, inside)
 
 wide-requires : tie.Need-wide-requires
 wide-requires c κs = search needs
@@ -53,11 +56,17 @@ wide-requires c κs = search needs
 put-past-requires : tie.Need-put-past-requires
 put-past-requires c κs =
     let a = c .before .before .before .before .before .before .before .before .before .before .before .before .before .before .before .before .before .args in
-    let here = sight (a .reader) (a .state .now) (a .s .now) _ _ (c .before .before .before .before .before .before .before .before .before .before .before .before .before .byte-here .ensures) (c .before .before .before .before .before .before .before .before .before .before .before .here .given .1) in
+    let here = byte-sight (a .reader) (a .state .now) (a .s .now) _ (c .before .before .before .before .before .before .before .before .before .before .before .before .before .found-here .ensures) _ (c .before .before .before .before .before .before .before .before .before .before .before .here .given .1) in
     (here .low, (here .fit, refl))
 
 enum-told : tie.Need-enum-told
 enum-told c = search needs
+
+answer-none-requires : tie.Need-answer-none-requires
+answer-none-requires c κs = search needs
+
+enum-told-2 : tie.Need-enum-told-2
+enum-told-2 c = search needs
 
 next-any-requires-2 : tie.Need-next-any-requires-2
 next-any-requires-2 c κs = search needs
@@ -65,14 +74,20 @@ next-any-requires-2 c κs = search needs
 returns-2 : tie.Need-returns-2
 returns-2 c =
     let a = c .before .before .before .before .before .before .before .before .before .before .before .before .before .before .before .before .before .before .args in
-    let here = sight (a .reader) (a .state .now) (a .s .now) _ _ (c .before .before .before .before .before .before .before .before .before .before .before .before .before .before .byte-here .ensures) (c .before .before .before .before .before .before .before .before .before .before .before .before .here .given .1) in
+    let here = byte-sight (a .reader) (a .state .now) (a .s .now) _ (c .before .before .before .before .before .before .before .before .before .before .before .before .before .before .found-here .ensures) _ (c .before .before .before .before .before .before .before .before .before .before .before .before .here .given .1) in
     let own = c .before .before .before .before .before .before .before .own-bits .ensures in
     rw (c .put-past .ensures, c .before .before .before .wide .ensures)
     (next-words (a .reader) (a .state .now) (a .s .now) _ here (a .answer .now) _
-    (rw (c .before .before .before .before .char-is-digit-by-range .ensures, c .before .before .before .before .before .before .has-any .ensures, own .0, c .before .before .before .before .before .radix-of .ensures)) (own .1))
+    (rw (c .before .before .before .before .char-is-digit-by-table .ensures, c .before .before .before .before .before .before .has-any .ensures, own .0, c .before .before .before .before .before .radix-of .ensures)) (own .1))
 
 returns-3 : tie.Need-returns-3
-returns-3 c = search needs
+returns-3 c =
+    let a = c .before .before .before .before .before .before .before .before .before .args in
+    let here = end-sight (a .reader) (a .state .now) (a .s .now) _ (c .before .before .before .before .before .found-here .ensures) (c .before .before .before .enum-told .given .1) in
+    rw (taken-end (a .reader) (a .state .now) (a .s .now) here) (c .answer-none .ensures)
+
+returns-4 : tie.Need-returns-4
+returns-4 c = search needs
 
 pub pawhetino-next-spec : {M : Type 1} → statement M
 pawhetino-next-spec =
@@ -80,7 +95,7 @@ pawhetino-next-spec =
     (tie.spec
     next-any-requires
     returns
-    byte-here-requires
+    found-here-requires
     enum-known-here
     element-copy-out-lo
     element-copy-out-hi
@@ -88,11 +103,14 @@ pawhetino-next-spec =
     own-bits-requires
     has-any-requires
     radix-of-requires
-    char-is-digit-by-range-requires
+    char-is-digit-by-table-requires
     add-past
     wide-requires
     put-past-requires
     enum-told
+    answer-none-requires
+    enum-told-2
     next-any-requires-2
     returns-2
-    returns-3)
+    returns-3
+    returns-4)

@@ -4,7 +4,7 @@ use mathlib.Core.Bool.{false, not, _||_}
 use lib.Dec.{eqb, ltb}
 use lib.ListN.{getD}
 use native.Mathlib.Omega.{arith}
-use borrow.Author.Tests.{eqb-false, not-false, ltb-false}
+use borrow.Author.Tests.{not-false, ltb-false}
 use Rattle.export.proofs.next_all.EndWords.{left-fails, right-fails, is-zero, end-written}
 use borrow.Author.Needs.{needs}
 use Rattle.export.proofs.next_all.pawhetino_next_all.Statement.{statement}
@@ -46,27 +46,21 @@ element-copy-out-hi c = search needs
 digit-separator-requires : tie.Need-digit-separator-requires
 digit-separator-requires c κs = search needs
 
-has-internal-requires : tie.Need-has-internal-requires
-has-internal-requires c κs =
-    let a = c .before .before .before .before .before .before .before .before .before .before .before .args in
-    let w = a .state .now in
-    let other = ltb 2 (a .reader) in
-    let moved = not (eqb (getD w 2 0) 0) in
-    let edition = not (eqb (getD w 7 0) 0) in
-    let t1 : ((other || moved) || edition) ≡ false = c .before .before .before .before .before .before .before .if1 .left in
-    ltb-false 2 (a .reader) (left-fails other moved (left-fails (other || moved) edition t1))
-
 next-all-any-requires-3 : tie.Need-next-all-any-requires-3
 next-all-any-requires-3 c κs = search needs
 
 returns-3 : tie.Need-returns-3
 returns-3 c = search needs
 
-radix-of-requires : tie.Need-radix-of-requires
-radix-of-requires c κs = search needs
-
-grouped-cell-requires : tie.Need-grouped-cell-requires
-grouped-cell-requires c κs = search needs
+has-internal-requires : tie.Need-has-internal-requires
+has-internal-requires c κs =
+    let a = c .before .before .before .before .before .before .before .before .before .before .before .before .args in
+    let w = a .state .now in
+    let other = ltb 2 (a .reader) in
+    let moved = not (eqb (getD w 2 0) 0) in
+    let edition = not (eqb (getD w 7 0) 0) in
+    let t1 : ((other || moved) || edition) ≡ false = c .before .before .before .before .before .before .before .before .if1 .left in
+    ltb-false 2 (a .reader) (left-fails other moved (left-fails (other || moved) edition t1))
 
 next-all-any-requires-4 : tie.Need-next-all-any-requires-4
 next-all-any-requires-4 c κs = search needs
@@ -74,8 +68,23 @@ next-all-any-requires-4 c κs = search needs
 returns-4 : tie.Need-returns-4
 returns-4 c = search needs
 
+radix-of-requires : tie.Need-radix-of-requires
+radix-of-requires c κs = search needs
+
+grouped-cell-requires : tie.Need-grouped-cell-requires
+grouped-cell-requires c κs = search needs
+
+next-all-any-requires-5 : tie.Need-next-all-any-requires-5
+next-all-any-requires-5 c κs = search needs
+
+returns-5 : tie.Need-returns-5
+returns-5 c = search needs
+
 sub-taken : tie.Need-sub-taken
 sub-taken c = search needs
+
+element-copy-out-old : tie.Need-element-copy-out-old
+element-copy-out-old c = search needs
 
 own-requires : tie.Need-own-requires
 own-requires c κs = search needs
@@ -89,27 +98,22 @@ own-requires-3 c κs = search needs
 element-copy-out-kept : tie.Need-element-copy-out-kept
 element-copy-out-kept c = search needs
 
-element-copy-out-old : tie.Need-element-copy-out-old
-element-copy-out-old c = search needs
-
-returns-5 : tie.Need-returns-5
-returns-5 c =
-    let a = c .before .before .before .before .before .before .before .before .before .before .before .before .before .before .before .before .before .before .before .before .before .before .before .before .args in
+returns-6 : tie.Need-returns-6
+returns-6 c =
+    let a = c .before .before .before .before .before .before .before .before .before .before .before .before .before .before .before .before .before .before .before .before .before .before .before .before .before .args in
     let w = a .state .now in
     let other = ltb 2 (a .reader) in
     let moved = not (eqb (getD w 2 0) 0) in
     let edition = not (eqb (getD w 7 0) 0) in
-    let t1 : ((other || moved) || edition) ≡ false = c .before .before .before .before .before .before .before .before .before .before .before .before .before .before .before .before .before .before .before .before .if1 .left in
+    let t1 : ((other || moved) || edition) ≡ false = c .before .before .before .before .before .before .before .before .before .before .before .before .before .before .before .before .before .before .before .before .before .if1 .left in
     let n3 = not (eqb (getD w 3 0) 0) in
     let n4 = not (eqb (getD w 4 0) 0) in
     let n5 = not (eqb (getD w 5 0) 0) in
-    let t2 : ((n3 || n4) || n5) ≡ false = c .before .before .before .before .before .before .before .before .before .before .before .before .before .before .before .before .if2 .left in
-    let separator = c .before .before .before .before .before .before .before .before .before .before .before .before .before .digit-separator in
+    let t2 : ((n3 || n4) || n5) ≡ false = c .before .before .before .before .before .before .before .before .before .before .before .before .before .before .before .before .before .if2 .left in
+    let separator = c .before .before .before .before .before .before .before .before .before .before .before .before .before .before .digit-separator in
     let internal = c .before .before .before .before .before .before .before .before .before .before .before .before .has-internal in
-    let t3 : (eqb (separator .result) 0 || not (internal .result)) ≡ false = c .before .before .before .before .before .before .before .before .before .before .before .if3 .left in
-    let some-separator : separator .result ≡ 0 → ⊥ = eqb-false (separator .result) 0 (left-fails (eqb (separator .result) 0) (not (internal .result)) t3) in
-    let cell = c .before .before .before .before .before .before .before .before .before .grouped-cell .ensures .1 (not-false _ (c .before .before .before .before .before .before .before .if4 .left)) in
-    rw (c .before .before .before .before .before .before .own .ensures, c .before .before .before .before .before .own2 .ensures, c .before .before .before .before .own3 .ensures)
+    let cell = c .before .before .before .before .before .before .before .before .before .grouped-cell .ensures .1 (not-false _ (c .before .before .before .before .before .before .before .if5 .left)) in
+    rw (c .before .before .before .before .own .ensures, c .before .before .before .own2 .ensures, c .before .before .own3 .ensures)
     (end-written (a .reader) w (a .s .now)
     (ltb-false 2 (a .reader) (left-fails other moved (left-fails (other || moved) edition t1)))
     (is-zero (getD w 7 0) (right-fails (other || moved) edition t1))
@@ -118,8 +122,8 @@ returns-5 c =
     (is-zero (getD w 4 0) (right-fails n3 n4 (left-fails (n3 || n4) n5 t2)))
     (is-zero (getD w 5 0) (right-fails (n3 || n4) n5 t2))
     (c .before .before .before .before .before .before .before .before .before .grouped-cell .result .count) (c .before .before .before .before .before .before .before .before .before .grouped-cell .result .passed)
-    (rw (sym (separator .ensures)) (omega (arith, some-separator)))
-    (sym (internal .ensures) ∙ not-false _ (right-fails (eqb (separator .result) 0) (not (internal .result)) t3))
+    (rw (sym (separator .ensures)) (omega (arith, c .before .before .before .before .before .before .before .before .before .before .before .before .before .if3 .left)))
+    (sym (internal .ensures) ∙ not-false _ (c .before .before .before .before .before .before .before .before .before .before .before .if4 .left))
     (rw (separator .ensures, c .before .before .before .before .before .before .before .before .before .before .radix-of .ensures) at cell)
     (a .answer .now))
 
@@ -139,17 +143,19 @@ pawhetino-next-all-spec =
     element-copy-out-lo
     element-copy-out-hi
     digit-separator-requires
-    has-internal-requires
     next-all-any-requires-3
     returns-3
-    radix-of-requires
-    grouped-cell-requires
+    has-internal-requires
     next-all-any-requires-4
     returns-4
+    radix-of-requires
+    grouped-cell-requires
+    next-all-any-requires-5
+    returns-5
     sub-taken
+    element-copy-out-old
     own-requires
     own-requires-2
     own-requires-3
     element-copy-out-kept
-    element-copy-out-old
-    returns-5)
+    returns-6)

@@ -1,73 +1,75 @@
--- `export::zeros::pawhetino_skip_zeros` meets its contract. Assumes nothing.
-use mathlib.Core.Path.{_∙_, ap}
-use Rattle.export.specs.Calls.{skippedBy}
-use Rattle.export.specs.Code.Reply.{zerosReply}
-use Rattle.export.proofs.reply.Words.{written-as, zeros-refused}
-use Rattle.reader.proofs.state.Readers.{named, unnamed}
+-- `export::zeros::pawhetino_skip_zeros` meets its contract: where there is a byte that is neither a zero nor a separator, or the end, no zero
+use borrow.Author.Tests.{ne-eqb}
+use Rattle.export.proofs.here.Sight.{byte-sight, end-sight}
+use Rattle.export.proofs.here.Calls.{skipped-other, skipped-end}
+-- is found, anything else is left to the reader. Assumes nothing.
 use borrow.Author.Needs.{needs}
 use Rattle.export.proofs.zeros.pawhetino_skip_zeros.Statement.{statement}
 use Rattle.export.proofs.zeros.pawhetino_skip_zeros.Tie as tie
 
-element-copy-out-old : tie.Need-element-copy-out-old
-element-copy-out-old c = search needs
+skip-any-requires : tie.Need-skip-any-requires
+skip-any-requires c κs = search needs
 
-state-in-requires : tie.Need-state-in-requires
-state-in-requires c κs = search needs
+returns : tie.Need-returns
+returns c = search needs
 
-element-copy-out-reader-on : tie.Need-element-copy-out-reader-on
-element-copy-out-reader-on c = search needs
+found-here-requires : tie.Need-found-here-requires
+found-here-requires c κs = search needs
 
-reader-on-requires : tie.Need-reader-on-requires
-reader-on-requires c κs = search needs
+enum-known-here : tie.Need-enum-known-here
+enum-known-here c = search needs
 
-enum-known-by : tie.Need-enum-known-by
-enum-known-by c = search needs
+skip-any-requires-2 : tie.Need-skip-any-requires-2
+skip-any-requires-2 c κs = search needs
 
-skip-zeros-requires : tie.Need-skip-zeros-requires
-skip-zeros-requires c κs = search needs
+returns-2 : tie.Need-returns-2
+returns-2 c = search needs
 
-of-skip-requires : tie.Need-of-skip-requires
-of-skip-requires c κs = search needs
-
-put-requires : tie.Need-put-requires
-put-requires c κs = search needs
+answer-no-zeros-requires : tie.Need-answer-no-zeros-requires
+answer-no-zeros-requires c κs = search needs
 
 enum-told : tie.Need-enum-told
 enum-told c = search needs
 
-refused-requires : tie.Need-refused-requires
-refused-requires c κs = search needs
+answer-no-zeros-requires-2 : tie.Need-answer-no-zeros-requires-2
+answer-no-zeros-requires-2 c κs = search needs
 
-put-requires-2 : tie.Need-put-requires-2
-put-requires-2 c κs = search needs
+enum-told-2 : tie.Need-enum-told-2
+enum-told-2 c = search needs
 
-returns : tie.Need-returns
-unfolding skippedBy zerosReply
-returns c =
-    let e = named _ _ (c .before .before .before .before .before .before .before .before .reader-on .ensures) _ (c .before .before .before .before .before .before .by .given .1) in
-    let outcome = rw (c .before .before .before .before .before .before .before .before .before .before .state-in .ensures) at (c .before .before .before .before .skip-zeros .ensures) in
-    rw e (written-as (c .before .before .before .before .before .before .before .before .before .before .before .before .before .before .args .state .now) _ _ (c .before .before .before .of-skip .ensures ∙ ap (zerosReply _) outcome) (c .put .ensures))
+skip-any-requires-3 : tie.Need-skip-any-requires-3
+skip-any-requires-3 c κs = search needs
 
-returns-2 : tie.Need-returns-2
-unfolding skippedBy zerosReply
-returns-2 c =
-    let e = unnamed _ _ (c .before .before .before .before .before .before .reader-on .ensures) (c .before .before .before .before .enum-told .given .1) in
-    rw e (written-as (c .before .before .before .before .before .before .before .before .before .before .before .before .args .state .now) _ _ (c .before .before .before .refused .ensures ∙ rw (c .before .before .before .before .before .before .before .before .state-in .ensures) (zeros-refused 19 _ _)) (c .put2 .ensures))
+returns-3 : tie.Need-returns-3
+returns-3 c =
+    let a = c .before .before .before .before .before .before .before .before .before .before .before .args in
+    let here = byte-sight (a .reader) (a .state .now) (a .s .now) _ (c .before .before .before .before .before .before .before .found-here .ensures) _ (c .before .before .before .before .before .here .given .1) in
+    rw (skipped-other (a .reader) (a .state .now) (a .s .now) _ here (ne-eqb _ _ (c .before .before .before .if2 .left))) (c .answer-no-zeros .ensures)
+
+returns-4 : tie.Need-returns-4
+returns-4 c =
+    let a = c .before .before .before .before .before .before .before .before .before .args in
+    let here = end-sight (a .reader) (a .state .now) (a .s .now) _ (c .before .before .before .before .before .found-here .ensures) (c .before .before .before .enum-told .given .1) in
+    rw (skipped-end (a .reader) (a .state .now) (a .s .now) here) (c .answer-no-zeros2 .ensures)
+
+returns-5 : tie.Need-returns-5
+returns-5 c = search needs
 
 pub pawhetino-skip-zeros-spec : {M : Type 1} → statement M
 pawhetino-skip-zeros-spec =
     tie.close
     (tie.spec
-    element-copy-out-old
-    state-in-requires
-    element-copy-out-reader-on
-    reader-on-requires
-    enum-known-by
-    skip-zeros-requires
-    of-skip-requires
-    put-requires
-    enum-told
-    refused-requires
-    put-requires-2
+    skip-any-requires
     returns
-    returns-2)
+    found-here-requires
+    enum-known-here
+    skip-any-requires-2
+    returns-2
+    answer-no-zeros-requires
+    enum-told
+    answer-no-zeros-requires-2
+    enum-told-2
+    skip-any-requires-3
+    returns-3
+    returns-4
+    returns-5)
