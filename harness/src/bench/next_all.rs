@@ -13,7 +13,7 @@ pub struct NextAll;
 
 impl Work for NextAll {
     #[inline(always)]
-    fn rust<'a, const FORMAT: u128>(&self, cell: &'a [u8]) -> Answer<'a> {
+    fn rust<const FORMAT: u128>(&self, cell: &[u8]) -> Answer {
         let mut bytes = Bytes::<FORMAT>::new(cell);
         let mut iter = bytes.integer_iter();
         let mut taken = 0;
@@ -24,16 +24,18 @@ impl Work for NextAll {
             cursor: iter.cursor(),
             counts: [iter.current_count(), 0, 0],
         };
-        Answer::new(State::default(), Found::byte(None), taken, after)
+        Answer::new(State::default(), Found::NOTHING, taken, after)
     }
 
     #[inline(always)]
-    fn port<'a>(&self, case: &Case<'a>) -> Answer<'a> {
-        port::next_all(case)
+    fn port(&self, case: &Case) -> Answer {
+        let mut after = *case;
+        let taken = port::next_all(&mut after);
+        Answer::new(case.state, Found::NOTHING, taken, after.state)
     }
 
     #[inline(always)]
-    fn library<'a>(&self, case: &Case<'a>) -> Answer<'a> {
+    fn library(&self, case: &Case) -> Answer {
         library::call(case, Call::NextAll)
     }
 }

@@ -4,7 +4,7 @@
 use std::hint::black_box;
 
 use super::cells::Cells;
-use crate::readers::answer::{Answer, Found};
+use crate::readers::answer::Answer;
 use crate::readers::call::{Case, INTEGER};
 use crate::readers::sets::*;
 use crate::readers::words::with_integer_flags;
@@ -33,9 +33,9 @@ pub fn rust_under(sides: &impl Sides, set: u32, cells: &Cells) -> u64 {
 pub trait Work {
     /// The crate's functions ask to be inlined, and so should these: the crate
     /// is timed as it is used.
-    fn rust<'a, const FORMAT: u128>(&self, cell: &'a [u8]) -> Answer<'a>;
-    fn port<'a>(&self, case: &Case<'a>) -> Answer<'a>;
-    fn library<'a>(&self, case: &Case<'a>) -> Answer<'a>;
+    fn rust<const FORMAT: u128>(&self, cell: &[u8]) -> Answer;
+    fn port(&self, case: &Case) -> Answer;
+    fn library(&self, case: &Case) -> Answer;
 }
 
 /// One call for each cell.
@@ -64,35 +64,26 @@ impl<W: Work> Sides for Singly<W> {
 /// sums that do not wait for each other: with a product carried from cell to cell
 /// the crate's calls took no longer than it.
 #[inline(never)]
-fn each<'a>(cells: &[&'a [u8]], work: impl Fn(&'a [u8]) -> Answer<'a>) -> u64 {
-    let mut sums = [0; 8];
+fn each<'a>(cells: &[&'a [u8]], work: impl Fn(&'a [u8]) -> Answer) -> u64 {
+    let mut sums = [0_usize; 7];
     for cell in black_box(cells) {
         for (sum, number) in sums.iter_mut().zip(numbers(&work(cell))) {
-            *sum += number;
+            *sum = sum.wrapping_add(number);
         }
     }
     checksum(sums)
 }
 
 #[inline(always)]
-fn numbers(answer: &Answer) -> [usize; 8] {
-    let [first, second, third] = match answer.found {
-        Found::Byte { .. } => [0; 3],
-        Found::Zeros(zeros) => [zeros, 0, 0],
-        Found::Block { has_block, part } => {
-            let length = part.bytes.map_or(0, <[u8]>::len);
-            [has_block.into(), part.start, length]
-        }
-    };
+fn numbers(answer: &Answer) -> [usize; 7] {
     [
         answer.number as usize,
         answer.taken,
         answer.passed,
         answer.state.cursor,
         answer.state.counts[usize::from(INTEGER)],
-        first,
-        second,
-        third,
+        answer.found.is_there as usize,
+        answer.found.what as usize,
     ]
 }
 

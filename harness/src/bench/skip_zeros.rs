@@ -13,7 +13,7 @@ pub struct SkipZeros;
 
 impl Work for SkipZeros {
     #[inline(always)]
-    fn rust<'a, const FORMAT: u128>(&self, cell: &'a [u8]) -> Answer<'a> {
+    fn rust<const FORMAT: u128>(&self, cell: &[u8]) -> Answer {
         let mut bytes = Bytes::<FORMAT>::new(cell);
         let mut iter = bytes.integer_iter();
         let zeros = iter.skip_zeros();
@@ -21,16 +21,18 @@ impl Work for SkipZeros {
             cursor: iter.cursor(),
             counts: [iter.current_count(), 0, 0],
         };
-        Answer::new(State::default(), Found::Zeros(zeros), zeros, after)
+        Answer::new(State::default(), Found::zeros(zeros), zeros, after)
     }
 
     #[inline(always)]
-    fn port<'a>(&self, case: &Case<'a>) -> Answer<'a> {
-        port::skip_zeros(case)
+    fn port(&self, case: &Case) -> Answer {
+        let mut after = *case;
+        let zeros = port::skip_zeros(&mut after);
+        Answer::new(case.state, Found::zeros(zeros), zeros, after.state)
     }
 
     #[inline(always)]
-    fn library<'a>(&self, case: &Case<'a>) -> Answer<'a> {
+    fn library(&self, case: &Case) -> Answer {
         library::call(case, Call::SkipZeros)
     }
 }

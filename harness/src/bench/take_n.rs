@@ -1,5 +1,4 @@
-//! Takes a block from the start of a cell. The library is asked twice, since
-//! the part of the buffer has a call of its own.
+//! Takes a block from the start of a cell.
 
 use lexical_util_format::iterator::{Bytes, Iter};
 
@@ -15,7 +14,7 @@ pub struct TakeN(usize);
 
 impl Work for TakeN {
     #[inline(always)]
-    fn rust<'a, const FORMAT: u128>(&self, cell: &'a [u8]) -> Answer<'a> {
+    fn rust<const FORMAT: u128>(&self, cell: &[u8]) -> Answer {
         let mut bytes = Bytes::<FORMAT>::new(cell);
         let block = bytes.integer_iter().take_n(self.0);
         let part = block.map(|block| block.as_slice());
@@ -28,12 +27,15 @@ impl Work for TakeN {
     }
 
     #[inline(always)]
-    fn port<'a>(&self, case: &Case<'a>) -> Answer<'a> {
-        port::take_n(case, self.0)
+    fn port(&self, case: &Case) -> Answer {
+        let mut after = *case;
+        let part = port::take_n(&mut after, self.0);
+        let found = Found::block(case.buffer, part);
+        Answer::new(case.state, found, part.map_or(0, <[u8]>::len), after.state)
     }
 
     #[inline(always)]
-    fn library<'a>(&self, case: &Case<'a>) -> Answer<'a> {
+    fn library(&self, case: &Case) -> Answer {
         library::call(case, Call::TakeN(self.0))
     }
 }
@@ -44,7 +46,7 @@ const SETS: &[Set] = &[("none", NONE)];
 
 pub fn table() -> Table<Singly<TakeN>> {
     Table {
-        title: "Block take, one block for each cell (two calls to the library)",
+        title: "Block take, one block for each cell",
         short: "block",
         unit: Unit::Call,
         rows: vec![
