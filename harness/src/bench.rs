@@ -7,11 +7,14 @@ mod column;
 mod full_check;
 pub mod growth;
 mod next_all;
+mod outcome;
 pub mod script;
 mod sides;
+mod singly;
 mod skip_zeros;
 mod table;
 mod take_n;
+mod times;
 mod timing;
 
 use std::process::ExitCode;
@@ -32,11 +35,11 @@ pub fn run(seed: u64, chart: Option<&str>) -> ExitCode {
         agreed: true,
         bars: Vec::new(),
     };
-    next_all::table().time(seed, &mut findings);
-    column::table().time(seed, &mut findings);
-    next_all::table_of_runs().time(seed, &mut findings);
-    skip_zeros::table().time(seed, &mut findings);
-    take_n::table().time(seed, &mut findings);
+    times::print(&next_all::table(), seed, &mut findings);
+    times::print(&column::table(), seed, &mut findings);
+    times::print(&next_all::table_of_runs(), seed, &mut findings);
+    times::print(&skip_zeros::table(), seed, &mut findings);
+    times::print(&take_n::table(), seed, &mut findings);
     full_check::time(seed, &mut findings);
     if !findings.agreed {
         eprintln!("harness: the answers differ, so the times say nothing");

@@ -5,7 +5,7 @@
 mod functions;
 mod raw;
 
-pub use self::raw::{raw, RawAnswer, RawState, EDITION, EDITION_AT};
+pub use self::raw::{raw, RawAnswer, RawState, CURSOR_AT, EDITION, EDITION_AT, INTEGER_AT};
 
 use self::functions::*;
 use self::raw::{changing, is_kept};

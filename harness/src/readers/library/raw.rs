@@ -12,7 +12,9 @@ pub type RawAnswer = [u64; 4];
 /// The only edition that there is.
 pub const EDITION: u64 = 0;
 
-/// The place of the edition in a state.
+/// Places in a state.
+pub const CURSOR_AT: usize = 2;
+pub const INTEGER_AT: usize = 3;
 pub const EDITION_AT: usize = 7;
 
 /// What no call changes: all but the cursor and the counts.
