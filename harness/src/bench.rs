@@ -1,13 +1,16 @@
 //! Times the library beside the crate: reader calls and the full check (`run`),
 //! how cost grows with a cell's length (`growth`), and call scripts (`script`).
 
+mod byte_calls;
 mod cells;
 mod chart;
 mod column;
+mod each_byte;
 mod full_check;
 pub mod growth;
 mod next_all;
 mod outcome;
+mod read;
 pub mod script;
 mod sides;
 mod singly;
@@ -38,6 +41,9 @@ pub fn run(seed: u64, chart: Option<&str>) -> ExitCode {
     times::print(&next_all::table(), seed, &mut findings);
     times::print(&column::table(), seed, &mut findings);
     times::print(&next_all::table_of_runs(), seed, &mut findings);
+    times::print(&byte_calls::takes(), seed, &mut findings);
+    times::print(&byte_calls::peeks(), seed, &mut findings);
+    times::print(&read::table(), seed, &mut findings);
     times::print(&skip_zeros::table(), seed, &mut findings);
     times::print(&take_n::table(), seed, &mut findings);
     full_check::time(seed, &mut findings);
