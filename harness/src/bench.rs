@@ -1,13 +1,16 @@
-//! Times the library beside the crate: reader calls and the full check (`run`),
-//! how cost grows with a cell's length (`growth`), and call scripts (`script`).
+//! Times the library beside the crate: reader calls, the full check and what some
+//! calls take in instructions (`run`), how cost grows with a cell's length
+//! (`growth`), and call scripts (`script`).
 
 mod byte_calls;
+mod callgrind;
 mod cells;
 mod chart;
 mod column;
 mod each_byte;
 mod full_check;
 pub mod growth;
+pub mod instructions;
 mod next_all;
 mod outcome;
 mod read;
@@ -47,6 +50,7 @@ pub fn run(seed: u64, chart: Option<&str>) -> ExitCode {
     times::print(&skip_zeros::table(), seed, &mut findings);
     times::print(&take_n::table(), seed, &mut findings);
     full_check::time(seed, &mut findings);
+    instructions::print(seed);
     if !findings.agreed {
         eprintln!("harness: the answers differ, so the times say nothing");
         return ExitCode::FAILURE;
