@@ -1,17 +1,26 @@
-//! Times the library beside the crate: reader calls and the full check (`run`),
-//! how cost grows with a cell's length (`growth`), and call scripts (`script`).
+//! Times the library beside the crate: reader calls, the full check and what some
+//! calls take in instructions (`run`), how cost grows with a cell's length
+//! (`growth`), and call scripts (`script`).
 
+mod byte_calls;
+mod callgrind;
 mod cells;
 mod chart;
 mod column;
+mod each_byte;
 mod full_check;
 pub mod growth;
+pub mod instructions;
 mod next_all;
+mod outcome;
+mod read;
 pub mod script;
 mod sides;
+mod singly;
 mod skip_zeros;
 mod table;
 mod take_n;
+mod times;
 mod timing;
 
 use std::process::ExitCode;
@@ -32,12 +41,16 @@ pub fn run(seed: u64, chart: Option<&str>) -> ExitCode {
         agreed: true,
         bars: Vec::new(),
     };
-    next_all::table().time(seed, &mut findings);
-    column::table().time(seed, &mut findings);
-    next_all::table_of_runs().time(seed, &mut findings);
-    skip_zeros::table().time(seed, &mut findings);
-    take_n::table().time(seed, &mut findings);
+    times::print(&next_all::table(), seed, &mut findings);
+    times::print(&column::table(), seed, &mut findings);
+    times::print(&next_all::table_of_runs(), seed, &mut findings);
+    times::print(&byte_calls::takes(), seed, &mut findings);
+    times::print(&byte_calls::peeks(), seed, &mut findings);
+    times::print(&read::table(), seed, &mut findings);
+    times::print(&skip_zeros::table(), seed, &mut findings);
+    times::print(&take_n::table(), seed, &mut findings);
     full_check::time(seed, &mut findings);
+    instructions::print(seed);
     if !findings.agreed {
         eprintln!("harness: the answers differ, so the times say nothing");
         return ExitCode::FAILURE;

@@ -7,8 +7,10 @@ mod comparison;
 mod counts;
 mod coverage;
 mod digits;
+mod editions;
 mod examples;
 mod faults;
+mod fresh;
 mod history;
 mod is_digit;
 mod lists;
@@ -16,6 +18,7 @@ mod long;
 mod named_words;
 mod outcomes;
 mod plain;
+mod ported;
 mod random;
 mod refusals;
 mod runs;
@@ -30,10 +33,11 @@ pub use long::GROUPS as LONG_GROUPS;
 use crate::group::Groups;
 
 /// What the gate runs: words, then reader calls, the longest of these first.
-pub const GROUPS: [Groups; 18] = [
+pub const GROUPS: [Groups; 20] = [
     |report, _| named_words::run(report),
     |report, _| digits::run(report),
     checks::run,
+    fresh::run,
     |report, _| small::run(report, small::LONGEST),
     |report, seed| random::run(report, seed, &random::GATE),
     faults::run,
@@ -49,4 +53,5 @@ pub const GROUPS: [Groups; 18] = [
     counts::run,
     plain::run,
     |report, _| refusals::run(report),
+    |report, _| editions::run(report),
 ];

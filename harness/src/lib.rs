@@ -6,7 +6,8 @@
 //! two side by side, `growth` shows how cost grows with a cell's length.
 //! `test-script`, `scripts` and `bench-script` do this for call scripts alone;
 //! `answer-script` prints the crate's answers to one, `run-script` is the program
-//! that is timed, and `growth-calls` makes the calls whose instructions are counted.
+//! that is timed, and `growth-calls` and `count-passes` make the calls whose
+//! instructions are counted.
 //!
 //! `word` and `readers` have what is asked, how it is drawn and who answers;
 //! `compare`, `bench`, `script` and `record` what is done with it.
@@ -51,6 +52,7 @@ pub fn main() -> ExitCode {
         ["growth"] => bench::growth::run(None),
         ["growth", "--chart", file] => bench::growth::run(Some(file)),
         [bench::growth::COMMAND] => bench::growth::make_calls(),
+        [bench::instructions::COMMAND] => bench::instructions::make_passes(SEED),
         ["record"] => record::run(SEED),
         ["scripts"] => script::record(SEED),
         ["bench-script"] => bench::script::run(SEED),

@@ -1,13 +1,16 @@
-//! Takes every cell to its end, the whole column in one call.
+//! Takes every cell to its end, the whole column in one call. The crate has no
+//! such call, and where the port is called for each cell, it makes none either.
 
 use std::hint::black_box;
 
 use super::cells::Cells;
 use super::next_all::{self, NextAll};
-use super::sides::{checksum, Sides, Work};
+use super::outcome::Outcome;
+use super::sides::{checksum, Sides};
+use super::singly::Work;
 use super::table::{Rows, Table, Unit};
-use crate::readers::call::INTEGER;
-use crate::readers::column::{Column, Sums};
+use crate::readers::call::{Case, INTEGER};
+use crate::readers::column::Sums;
 use crate::readers::sets::{I, IC, ILT, ILTC};
 use crate::readers::words::DECIMAL;
 use crate::readers::{library, port};
@@ -16,23 +19,45 @@ use crate::word::Word;
 pub struct InOneCall;
 
 impl Sides for InOneCall {
-    /// The crate has no such call: its loop over the cells, all of it inlined.
-    #[inline(never)]
     fn rust<const FORMAT: u128>(&self, cells: &Cells) -> u64 {
-        let column: Column = black_box(cells).column(DECIMAL);
-        let sums = column.cells().fold(Sums::default(), |sums, cell| {
-            sums.and(&NextAll.rust::<FORMAT>(cell), INTEGER)
-        });
-        checksum_of(sums)
+        each(cells, |cell| NextAll.rust::<FORMAT>(cell))
+    }
+
+    fn rust_called<const FORMAT: u128>(&self, cells: &Cells) -> u64 {
+        each(cells, |cell| NextAll.rust_called::<FORMAT>(cell))
     }
 
     fn port(&self, word: Word, cells: &Cells) -> u64 {
         checksum_of(port::next_all_column(&black_box(cells).column(word)))
     }
 
+    fn port_called(&self, word: Word, cells: &Cells) -> u64 {
+        each(cells, |cell| {
+            NextAll.port_called(&mut Case::fresh(word, cell, INTEGER))
+        })
+    }
+
     fn library(&self, word: Word, cells: &Cells) -> u64 {
         checksum_of(library::next_all_column(&black_box(cells).column(word)))
     }
+
+    fn calls(&self, _word: Word, _cells: &Cells) -> usize {
+        1
+    }
+}
+
+/// The loop over the cells of a column where no call goes over all.
+#[inline(never)]
+fn each(cells: &Cells, work: impl Fn(&[u8]) -> Outcome) -> u64 {
+    let column = black_box(cells).column(DECIMAL);
+    let mut sums = Sums::default();
+    for cell in column.cells() {
+        let outcome = work(cell);
+        sums.taken += outcome.taken;
+        sums.passed += outcome.passed;
+        sums.digits += outcome.count;
+    }
+    checksum_of(sums)
 }
 
 fn checksum_of(sums: Sums) -> u64 {

@@ -38,6 +38,7 @@ pub fn time(seed: u64, findings: &mut Findings) {
         );
         findings.bars.push(Bars {
             label: format!("full check: {name} words"),
+            called: None,
             port: None,
             rattle: rattle.to(&rust),
         });

@@ -10,6 +10,7 @@ pub use self::instructions::COMMAND;
 use std::process::ExitCode;
 
 use self::rows::{Row, LENGTHS, ROWS};
+use super::callgrind;
 use super::chart;
 use super::chart::lines::{self, Line};
 
@@ -20,9 +21,7 @@ type Costs = [f64; LENGTHS.len()];
 pub fn run(chart: Option<&str>) -> ExitCode {
     match instructions::count() {
         Ok(counts) => tables::print_instructions(&counts),
-        Err(error) => {
-            println!("\nInstructions were not counted: valgrind's callgrind is needed ({error}).")
-        }
+        Err(error) => callgrind::tell_missing(&error),
     }
     let Some(times) = times::measure() else {
         eprintln!("harness: the answers differ, so the times say nothing");

@@ -1,40 +1,38 @@
 //! Takes to the end of a cell.
 
-use lexical_util_format::iterator::{Bytes, Iter};
+use lexical_util_format::iterator::Bytes;
 
-use super::sides::{Singly, Work};
+use super::outcome::Outcome;
+use super::singly::{ask, Singly, Work};
 use super::table::{Rows, Set, Table, Unit};
-use crate::readers::answer::{Answer, Found};
-use crate::readers::call::{Call, Case, State};
+use crate::readers::call::{Call, Case};
+use crate::readers::library::RawState;
+use crate::readers::port;
 use crate::readers::sets::{I, IC, ILT, ILTC};
-use crate::readers::{library, port};
 
 pub struct NextAll;
 
 impl Work for NextAll {
     #[inline(always)]
-    fn rust<'a, const FORMAT: u128>(&self, cell: &'a [u8]) -> Answer<'a> {
+    fn rust<const FORMAT: u128>(&self, cell: &[u8]) -> Outcome {
         let mut bytes = Bytes::<FORMAT>::new(cell);
         let mut iter = bytes.integer_iter();
         let mut taken = 0;
         while iter.next().is_some() {
             taken += 1;
         }
-        let after = State {
-            cursor: iter.cursor(),
-            counts: [iter.current_count(), 0, 0],
-        };
-        Answer::new(State::default(), Found::byte(None), taken, after)
+        Outcome::of_rust(&mut bytes, 0, taken)
     }
 
     #[inline(always)]
-    fn port<'a>(&self, case: &Case<'a>) -> Answer<'a> {
-        port::next_all(case)
+    fn port(&self, case: &mut Case) -> Outcome {
+        let taken = port::next_all(case);
+        Outcome::of_port(case, 0, taken)
     }
 
     #[inline(always)]
-    fn library<'a>(&self, case: &Case<'a>) -> Answer<'a> {
-        library::call(case, Call::NextAll)
+    fn library(&self, fresh: &RawState, cell: &[u8]) -> Outcome {
+        ask(Call::NextAll, fresh, cell)
     }
 }
 

@@ -1,99 +1,65 @@
-//! The three sides that are timed, each going over all cells by the integer
-//! reader. What a side answers is a checksum over all its answers.
+//! The sides that are timed, each going over all cells by the integer reader.
+//! What a side answers is a checksum over all its answers.
 
 use std::hint::black_box;
 
 use super::cells::Cells;
-use crate::readers::answer::{Answer, Found};
-use crate::readers::call::{Case, INTEGER};
 use crate::readers::sets::*;
 use crate::readers::words::with_integer_flags;
 use crate::word::Word;
 
+/// How the sides are named, in the order of `passes`.
+pub const NAMES: [&str; 5] = ["Crate", "Crate called", "Port", "Port called", "Rattle"];
+
 pub trait Sides {
+    /// The crate with the word compiled in, inlined into the loop over the cells.
     fn rust<const FORMAT: u128>(&self, cells: &Cells) -> u64;
+    /// The same, a real call for each.
+    fn rust_called<const FORMAT: u128>(&self, cells: &Cells) -> u64;
+    /// The plain port with the word at run time, which may be inlined.
     fn port(&self, word: Word, cells: &Cells) -> u64;
+    /// The same, a real call for each.
+    fn port_called(&self, word: Word, cells: &Cells) -> u64;
     fn library(&self, word: Word, cells: &Cells) -> u64;
+
+    /// How many calls a pass of the library makes.
+    fn calls(&self, word: Word, cells: &Cells) -> usize;
 }
 
-/// The crate's side under a word that has these flags for the integer reader.
-pub fn rust_under(sides: &impl Sides, set: u32, cells: &Cells) -> u64 {
-    macro_rules! choose {
-        ($($known:ident)*) => {
-            match set {
-                $($known => sides.rust::<{ with_integer_flags($known).bits() }>(cells),)*
-                _ => panic!("the crate has no rule for these flags"),
-            }
-        };
-    }
-    choose!(NONE I L IL T IT LT ILT IC LC ILC TC ITC LTC ILTC)
+/// One pass of each side.
+pub type Passes<'a> = [Box<dyn Fn() -> u64 + 'a>; NAMES.len()];
+
+/// Under a word that has these flags for the integer reader.
+pub fn passes<'a>(sides: &'a impl Sides, set: u32, cells: &'a Cells) -> Passes<'a> {
+    let word = black_box(with_integer_flags(set));
+    [
+        Box::new(move || by_rust(sides, set, cells)),
+        Box::new(move || by_rust_called(sides, set, cells)),
+        Box::new(move || sides.port(word, cells)),
+        Box::new(move || sides.port_called(word, cells)),
+        Box::new(move || sides.library(word, cells)),
+    ]
 }
 
-/// What is done with one cell, from a fresh state.
-pub trait Work {
-    /// The crate's functions ask to be inlined, and so should these: the crate
-    /// is timed as it is used.
-    fn rust<'a, const FORMAT: u128>(&self, cell: &'a [u8]) -> Answer<'a>;
-    fn port<'a>(&self, case: &Case<'a>) -> Answer<'a>;
-    fn library<'a>(&self, case: &Case<'a>) -> Answer<'a>;
-}
-
-/// One call for each cell.
-pub struct Singly<W>(pub W);
-
-impl<W: Work> Sides for Singly<W> {
-    fn rust<const FORMAT: u128>(&self, cells: &Cells) -> u64 {
-        each(&cells.parts, |cell| self.0.rust::<FORMAT>(cell))
-    }
-
-    fn port(&self, word: Word, cells: &Cells) -> u64 {
-        each(&cells.parts, |cell| {
-            self.0.port(&Case::fresh(word, cell, INTEGER))
-        })
-    }
-
-    fn library(&self, word: Word, cells: &Cells) -> u64 {
-        each(&cells.parts, |cell| {
-            self.0.library(&Case::fresh(word, cell, INTEGER))
-        })
-    }
-}
-
-/// Generic, so that nothing stands between the loop and the call; never inlined,
-/// so that each side has one loop for all rounds. All that is added to a call is
-/// sums that do not wait for each other: with a product carried from cell to cell
-/// the crate's calls took no longer than it.
-#[inline(never)]
-fn each<'a>(cells: &[&'a [u8]], work: impl Fn(&'a [u8]) -> Answer<'a>) -> u64 {
-    let mut sums = [0; 8];
-    for cell in black_box(cells) {
-        for (sum, number) in sums.iter_mut().zip(numbers(&work(cell))) {
-            *sum += number;
-        }
-    }
-    checksum(sums)
-}
-
-#[inline(always)]
-fn numbers(answer: &Answer) -> [usize; 8] {
-    let [first, second, third] = match answer.found {
-        Found::Byte { .. } => [0; 3],
-        Found::Zeros(zeros) => [zeros, 0, 0],
-        Found::Block { has_block, part } => {
-            let length = part.bytes.map_or(0, <[u8]>::len);
-            [has_block.into(), part.start, length]
+/// Calls what is compiled for a word that has these flags.
+macro_rules! under {
+    ($set:expr, $sides:ident.$side:ident($cells:ident)) => {
+        under!($set, $sides.$side($cells), NONE I L IL T IT LT ILT IC LC ILC TC ITC LTC ILTC)
+    };
+    ($set:expr, $sides:ident.$side:ident($cells:ident), $($known:ident)*) => {
+        match $set {
+            $($known => $sides.$side::<{ with_integer_flags($known).bits() }>($cells),)*
+            _ => panic!("the crate has no rule for these flags"),
         }
     };
-    [
-        answer.number as usize,
-        answer.taken,
-        answer.passed,
-        answer.state.cursor,
-        answer.state.counts[usize::from(INTEGER)],
-        first,
-        second,
-        third,
-    ]
+}
+
+fn by_rust(sides: &impl Sides, set: u32, cells: &Cells) -> u64 {
+    under!(set, sides.rust(cells))
+}
+
+fn by_rust_called(sides: &impl Sides, set: u32, cells: &Cells) -> u64 {
+    under!(set, sides.rust_called(cells))
 }
 
 /// One number of several, each with a weight of its own.

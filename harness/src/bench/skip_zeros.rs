@@ -1,37 +1,34 @@
 //! Skips the zeros at the start of a cell.
 
-use lexical_util_format::iterator::{Bytes, DigitsIter, Iter};
+use lexical_util_format::iterator::{Bytes, DigitsIter};
 
-use super::sides::{Singly, Work};
+use super::outcome::Outcome;
+use super::singly::{ask, Singly, Work};
 use super::table::{Rows, Set, Table, Unit};
-use crate::readers::answer::{Answer, Found};
-use crate::readers::call::{Call, Case, State};
+use crate::readers::call::{Call, Case};
+use crate::readers::library::RawState;
+use crate::readers::port;
 use crate::readers::sets::{I, ILT, ILTC, NONE};
-use crate::readers::{library, port};
 
 pub struct SkipZeros;
 
 impl Work for SkipZeros {
     #[inline(always)]
-    fn rust<'a, const FORMAT: u128>(&self, cell: &'a [u8]) -> Answer<'a> {
+    fn rust<const FORMAT: u128>(&self, cell: &[u8]) -> Outcome {
         let mut bytes = Bytes::<FORMAT>::new(cell);
-        let mut iter = bytes.integer_iter();
-        let zeros = iter.skip_zeros();
-        let after = State {
-            cursor: iter.cursor(),
-            counts: [iter.current_count(), 0, 0],
-        };
-        Answer::new(State::default(), Found::Zeros(zeros), zeros, after)
+        let zeros = bytes.integer_iter().skip_zeros();
+        Outcome::of_rust(&mut bytes, zeros, zeros)
     }
 
     #[inline(always)]
-    fn port<'a>(&self, case: &Case<'a>) -> Answer<'a> {
-        port::skip_zeros(case)
+    fn port(&self, case: &mut Case) -> Outcome {
+        let zeros = port::skip_zeros(case);
+        Outcome::of_port(case, zeros, zeros)
     }
 
     #[inline(always)]
-    fn library<'a>(&self, case: &Case<'a>) -> Answer<'a> {
-        library::call(case, Call::SkipZeros)
+    fn library(&self, fresh: &RawState, cell: &[u8]) -> Outcome {
+        ask(Call::SkipZeros, fresh, cell)
     }
 }
 

@@ -1,13 +1,7 @@
-//! Times the reader calls on columns of cells: the crate with the word compiled
-//! in, the plain port and the library with the word at run time.
-
-use std::hint::black_box;
+//! The tables of reader calls on columns of cells: which rows they have.
 
 use super::cells::{self, Cells};
-use super::chart::bars::Bars;
-use super::sides::{rust_under, Sides};
-use super::timing::{agree, time_in_turn, Timing, ROUNDS};
-use super::Findings;
+use super::sides::{passes, Passes, Sides};
 use crate::readers::words::with_integer_flags;
 use crate::rng::Rng;
 
@@ -43,96 +37,37 @@ pub enum Unit {
     Call,
 }
 
-impl<S: Sides> Table<S> {
-    pub fn time(&self, seed: u64, findings: &mut Findings) {
-        let (unit, more, rule) = match self.unit {
-            Unit::Byte => ("byte", " ns per cell: crate, port, Rattle |", "---|"),
-            Unit::Call => ("call", "", ""),
-        };
-        println!(
-            "\n**{}**, ns per {unit}: median of {ROUNDS} rounds (least to most).\n",
-            self.title
-        );
-        println!(
-            "| Cells | Flags | Crate | Port | Rattle | Rattle / crate | Rattle / port |{more}"
-        );
-        println!("|---|---|---|---|---|---|---|{rule}");
-        for rows in &self.rows {
-            self.time_rows(rows, seed, findings);
-        }
-    }
+/// One row, ready to be run.
+pub struct Row<'a> {
+    pub name: &'static str,
+    pub flags: &'static str,
+    pub is_charted: bool,
+    pub cells: &'a Cells<'a>,
+    /// Passes over the cells in one round.
+    pub passes: u32,
+    /// Calls that one pass of the library makes.
+    pub calls: usize,
+    pub sides: Passes<'a>,
+}
 
+impl<S: Sides> Table<S> {
     /// Rows of the same name and kinds have the same cells, in every table.
-    fn time_rows(&self, rows: &Rows<S>, seed: u64, findings: &mut Findings) {
-        let drawn = cells::draw(&mut Rng::new(seed, rows.name), &rows.kinds, rows.cells);
-        let buffer = drawn.concat();
-        let cells = Cells::cut(&buffer, drawn.iter().map(|cell| cell.len()));
-        for &(flags, set) in rows.sets {
-            let timings = rows.time(set, &cells, self.unit);
-            findings.agreed &= agree(&timings);
-            println!(
-                "| {} | {flags} | {} |",
-                rows.name,
-                self.fields(&timings, &cells)
-            );
-            if rows.charted.contains(&set) {
-                let [rust, port, rattle] = &timings;
-                findings.bars.push(Bars {
-                    label: self.label(rows.name, flags),
-                    port: Some(port.to(rust)),
-                    rattle: rattle.to(rust),
+    pub fn for_each_row(&self, seed: u64, visit: &mut dyn FnMut(&Row)) {
+        for rows in &self.rows {
+            let drawn = cells::draw(&mut Rng::new(seed, rows.name), &rows.kinds, rows.cells);
+            let buffer = drawn.concat();
+            let cells = Cells::cut(&buffer, drawn.iter().map(|cell| cell.len()));
+            for &(flags, set) in rows.sets {
+                visit(&Row {
+                    name: rows.name,
+                    flags,
+                    is_charted: rows.charted.contains(&set),
+                    cells: &cells,
+                    passes: rows.passes,
+                    calls: rows.sides.calls(with_integer_flags(set), &cells),
+                    sides: passes(&rows.sides, set, &cells),
                 });
             }
         }
-    }
-
-    fn label(&self, name: &str, flags: &str) -> String {
-        let name = name.replace('`', "");
-        let flags = if flags == "none" { "no flags" } else { flags };
-        format!("{}: {name}, {flags}", self.short)
-    }
-
-    fn fields(&self, timings: &[Timing; 3], cells: &Cells) -> String {
-        let [rust, port, rattle] = timings;
-        let ratios = [rattle.ratio(rust), rattle.ratio(port)].map(|ratio| format!("{ratio:.2}"));
-        let times = timings.each_ref().map(Timing::cell);
-        let fields = [times.join(" | "), ratios.join(" | ")].join(" | ");
-        if self.unit == Unit::Call {
-            return fields;
-        }
-        let length = cells.bytes() as f64 / cells.parts.len() as f64;
-        let per_cell = timings
-            .each_ref()
-            .map(|timing| short(timing.median() * length));
-        format!("{fields} | {}", per_cell.join(", "))
-    }
-}
-
-/// A time with no more places than tell something.
-fn short(time: f64) -> String {
-    if time < 1000.0 {
-        format!("{time:.1}")
-    } else {
-        format!("{time:.0}")
-    }
-}
-
-impl<S: Sides> Rows<S> {
-    fn time(&self, set: u32, cells: &Cells, unit: Unit) -> [Timing; 3] {
-        let word = black_box(with_integer_flags(set));
-        let sides = &self.sides;
-        let units = match unit {
-            Unit::Byte => cells.bytes(),
-            Unit::Call => cells.parts.len(),
-        };
-        time_in_turn(
-            [
-                &|| rust_under(sides, set, cells),
-                &|| sides.port(word, cells),
-                &|| sides.library(word, cells),
-            ],
-            units,
-            self.passes,
-        )
     }
 }

@@ -1,41 +1,45 @@
-//! Takes a block from the start of a cell. The library is asked twice, since
-//! the part of the buffer has a call of its own.
+//! Takes a block from the start of a cell.
 
 use lexical_util_format::iterator::{Bytes, Iter};
 
-use super::sides::{Singly, Work};
+use super::outcome::Outcome;
+use super::singly::{ask, Singly, Work};
 use super::table::{Rows, Set, Table, Unit};
-use crate::readers::answer::{Answer, Found};
-use crate::readers::call::{Call, Case, State};
+use crate::readers::call::{Call, Case};
+use crate::readers::library::RawState;
+use crate::readers::port;
 use crate::readers::sets::NONE;
-use crate::readers::{library, port};
 
 /// The size of the block.
 pub struct TakeN(usize);
 
 impl Work for TakeN {
     #[inline(always)]
-    fn rust<'a, const FORMAT: u128>(&self, cell: &'a [u8]) -> Answer<'a> {
+    fn rust<const FORMAT: u128>(&self, cell: &[u8]) -> Outcome {
         let mut bytes = Bytes::<FORMAT>::new(cell);
         let block = bytes.integer_iter().take_n(self.0);
         let part = block.map(|block| block.as_slice());
-        let after = State {
-            cursor: bytes.cursor(),
-            counts: [0; 3],
-        };
         let taken = part.map_or(0, <[u8]>::len);
-        Answer::new(State::default(), Found::block(cell, part), taken, after)
+        Outcome::of_rust(&mut bytes, found(cell, part), taken)
     }
 
     #[inline(always)]
-    fn port<'a>(&self, case: &Case<'a>) -> Answer<'a> {
-        port::take_n(case, self.0)
+    fn port(&self, case: &mut Case) -> Outcome {
+        let part = port::take_n(case, self.0);
+        let taken = part.map_or(0, <[u8]>::len);
+        Outcome::of_port(case, found(case.buffer, part), taken)
     }
 
     #[inline(always)]
-    fn library<'a>(&self, case: &Case<'a>) -> Answer<'a> {
-        library::call(case, Call::TakeN(self.0))
+    fn library(&self, fresh: &RawState, cell: &[u8]) -> Outcome {
+        ask(Call::TakeN(self.0), fresh, cell)
     }
+}
+
+fn found(cell: &[u8], part: Option<&[u8]>) -> usize {
+    part.map_or(0, |part| {
+        1 + part.as_ptr() as usize - cell.as_ptr() as usize
+    })
 }
 
 /// With any flag there is no block: the compiler knows it of the crate's, and
@@ -44,7 +48,7 @@ const SETS: &[Set] = &[("none", NONE)];
 
 pub fn table() -> Table<Singly<TakeN>> {
     Table {
-        title: "Block take, one block for each cell (two calls to the library)",
+        title: "Block take, one block for each cell",
         short: "block",
         unit: Unit::Call,
         rows: vec![

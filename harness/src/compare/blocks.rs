@@ -43,10 +43,10 @@ fn compare_sizes(group: &mut Group, case: &Case) {
     }
 }
 
-fn defined<'a>(case: &Case<'a>) -> Answer<'a> {
+fn defined(case: &Case) -> Answer {
     let mut after = case.state;
     if case.word.reader_set(case.reader) != NONE {
-        return Answer::new(case.state, Found::block(case.buffer, None), 0, after);
+        return Answer::new(case.state, Found::NOTHING, 0, after);
     }
     let left = &case.buffer[case.state.cursor..];
     after.cursor = case.buffer.len();

@@ -10,7 +10,7 @@ use crate::readers::compiled::Readers;
 
 /// What is compared with the crate: the library's calls, or for the tests of
 /// the comparison itself the same with a fault.
-pub type Asked = for<'a> fn(&Case<'a>, Call) -> Answer<'a>;
+pub type Asked = fn(&Case, Call) -> Answer;
 
 pub struct Comparison {
     asked: Asked,
@@ -31,12 +31,7 @@ impl Comparison {
     }
 
     /// Returns the crate's answer.
-    pub fn compare<'a>(
-        &mut self,
-        rust: &'static dyn Readers,
-        case: &Case<'a>,
-        call: Call,
-    ) -> Answer<'a> {
+    pub fn compare(&mut self, rust: &'static dyn Readers, case: &Case, call: Call) -> Answer {
         let expected = rust.call(case, call);
         self.coverage.note(case, call, &expected);
         let answer = (self.asked)(case, call);

@@ -51,6 +51,7 @@ fn compare(group: &mut Group, rust: &dyn Readers, buffer: &[u8], state: State, r
     let expected = CountAnswer {
         number: 0,
         count: rust.current_count(&case),
+        kept: true,
     };
     let answer = library::current_count(&case);
     group.agree(&case, ("library", answer), ("Rust", expected));

@@ -52,7 +52,7 @@ const PEEKED: [Peeked; 11] = [
 ];
 
 /// The library or the crate.
-type Ask<'a> = &'a dyn for<'b> Fn(&Case<'b>, Call) -> Answer<'b>;
+type Ask<'a> = &'a dyn Fn(&Case, Call) -> Answer;
 
 pub fn run(report: &mut Report) {
     let mut group = Group::new("examples A to N");

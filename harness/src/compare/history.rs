@@ -1,6 +1,7 @@
-//! What the definition computes from a list of calls and their answers alone.
+//! What the definition computes from a list of calls and their answers alone. Of
+//! a block the answer tells the place in the buffer.
 
-use crate::readers::answer::{Answer, Found};
+use crate::readers::answer::Answer;
 use crate::readers::call::{Call, Step, SPECIAL};
 use crate::readers::refusal::ACCEPTED;
 use crate::readers::sets::NONE;
@@ -9,8 +10,9 @@ use crate::word::{Field, Word};
 
 /// The calls so far. A zero skip stands in it as its reads, each a step with
 /// the call `SkipZeros` and an answer that has a byte or none.
-pub struct History {
+pub struct History<'a> {
     word: Word,
+    buffer: &'a [u8],
     /// The separators passed and the bytes taken, in the order of the calls.
     pub joined: Vec<u8>,
     /// The sums of what the calls answered.
@@ -20,10 +22,11 @@ pub struct History {
     pub counts: [usize; 3],
 }
 
-impl History {
-    pub fn new(word: Word) -> Self {
+impl<'a> History<'a> {
+    pub fn new(word: Word, buffer: &'a [u8]) -> Self {
         Self {
             word,
+            buffer,
             joined: Vec::new(),
             taken: 0,
             passed: 0,
@@ -33,14 +36,14 @@ impl History {
 
     pub fn add(&mut self, step: Step, answer: &Answer) {
         let separator = self.word.field(Field::Separator);
-        let taken = taken_bytes(step.call, answer);
+        let taken = self.taken_bytes(step.call, answer);
         self.joined
             .extend(std::iter::repeat_n(separator, answer.passed));
-        self.joined.extend(taken);
+        self.joined.extend(&taken);
         self.taken += answer.taken;
         self.passed += answer.passed;
         if step.reader != SPECIAL {
-            self.counts[usize::from(step.reader)] += self.counted(step, taken);
+            self.counts[usize::from(step.reader)] += self.counted(step, &taken);
         }
     }
 
@@ -60,24 +63,25 @@ impl History {
 
     /// Whether the reader may pass separators at the place that the calls so
     /// far have come to, and the buffer has so many there.
-    pub fn may_pass(&self, buffer: &[u8], reader: u8, separators: usize) -> bool {
+    pub fn may_pass(&self, reader: u8, separators: usize) -> bool {
         let place = self.joined.len();
         let count = match reader {
             SPECIAL => 0,
             _ => self.counts[usize::from(reader)],
         };
-        let view = View::new(self.word, reader, buffer);
+        let view = View::new(self.word, reader, self.buffer);
         view.may_pass(place, count)
             && (place..place + separators).all(|place| view.is_separator(view.at(place)))
     }
-}
 
-/// What a call answered as taken. A peek takes nothing of what it finds.
-fn taken_bytes<'b>(call: Call, answer: &'b Answer) -> &'b [u8] {
-    match &answer.found {
-        _ if answer.number != ACCEPTED || matches!(call, Call::Peek) => &[],
-        Found::Byte { has_byte: 1, byte } => std::slice::from_ref(byte),
-        Found::Block { part, .. } => part.bytes.unwrap_or(&[]),
-        _ => &[],
+    /// What a call answered as taken. A peek takes nothing of what it finds.
+    fn taken_bytes(&self, call: Call, answer: &Answer) -> Vec<u8> {
+        let what = answer.found.what;
+        match call {
+            _ if answer.number != ACCEPTED || answer.found.is_there == 0 => Vec::new(),
+            Call::Peek => Vec::new(),
+            Call::TakeN(_) => self.buffer[what as usize..][..answer.taken].to_vec(),
+            _ => vec![what as u8],
+        }
     }
 }

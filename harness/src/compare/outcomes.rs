@@ -2,7 +2,7 @@
 //! where it can be: otherwise a library that is wrong there is not seen either.
 
 use crate::group::{Group, Report};
-use crate::readers::answer::{Answer, Found};
+use crate::readers::answer::Answer;
 use crate::readers::call::Call;
 use crate::readers::refusal::ACCEPTED;
 
@@ -56,7 +56,7 @@ impl Outcomes {
     }
 
     pub fn note(&mut self, call: Call, answer: &Answer) {
-        self.seen[call.kind()][outcome(answer) as usize] = true;
+        self.seen[call.kind()][outcome(call, answer) as usize] = true;
     }
 
     pub fn close(self, report: &mut Report) {
@@ -74,11 +74,11 @@ impl Outcomes {
     }
 }
 
-fn outcome(answer: &Answer) -> Outcome {
+fn outcome(call: Call, answer: &Answer) -> Outcome {
     if answer.number != ACCEPTED {
         return Refused;
     }
-    if let Found::Block { has_block: 0, .. } = answer.found {
+    if matches!(call, Call::TakeN(_)) && answer.found.is_there == 0 {
         return GaveNoBlock;
     }
     match (answer.taken > 0, answer.passed > 0) {

@@ -58,7 +58,7 @@ fn compare(group: &mut Group, buffer: &[u8]) {
 /// Any word would do: it is a parameter that the crate's plain reader ignores.
 type PlainBytes<'a> = Bytes<'a, { DECIMAL.bits() }>;
 
-fn oracle_call<'a>(case: &Case<'a>, call: Call) -> Answer<'a> {
+fn oracle_call(case: &Case, call: Call) -> Answer {
     let State { cursor, counts } = case.state;
     assert!(cursor <= case.buffer.len(), "a cursor within the buffer");
     let mut bytes = PlainBytes::new(case.buffer);

@@ -1,12 +1,12 @@
 //! Longer buffers drawn at random, from arbitrary states, by all readers.
 
 use super::comparison::Comparison;
+use super::ported;
 use crate::group::{Group, Report};
-use crate::readers::answer::Answer;
 use crate::readers::call::{Call, Case, READERS};
 use crate::readers::compiled::Readers;
 use crate::readers::words::compiled;
-use crate::readers::{draw, library, port, refusal};
+use crate::readers::{draw, library};
 use crate::rng::Rng;
 
 const LONGEST: usize = 40;
@@ -34,7 +34,7 @@ pub fn run(report: &mut Report, seed: u64, amount: &Amount) {
     let mut rng = Rng::new(seed, what);
     for_each_drawn(&mut rng, amount.buffers, &mut |rust, case, call| {
         let expected = comparison.compare(rust, case, call);
-        compare_port(&mut port, case, call, expected);
+        ported::compare(&mut port, case, call, expected);
     });
     let coverage = comparison.close(report);
     report.close(port);
@@ -61,23 +61,5 @@ pub fn for_each_drawn(rng: &mut Rng, buffers: u32, visit: Visit) {
                 }
             }
         }
-    }
-}
-
-/// The port has no refusals, and only the calls that are timed.
-fn compare_port(group: &mut Group, case: &Case, call: Call, expected: Answer) {
-    let ported: Option<Answer> = match call {
-        _ if refusal::of_call(case, call) != refusal::ACCEPTED => None,
-        Call::NextAll => Some(port::next_all(case)),
-        Call::SkipZeros => Some(port::skip_zeros(case)),
-        Call::TakeN(n) => Some(port::take_n(case, n)),
-        _ => None,
-    };
-    if let Some(answer) = ported {
-        group.agree(
-            &format_args!("{call}, {case}"),
-            ("port", answer),
-            ("Rust", expected),
-        );
     }
 }

@@ -4,7 +4,7 @@
 use std::collections::BTreeMap;
 
 use crate::group::{Group, Report};
-use crate::readers::answer::{Answer, CountAnswer, UNTOUCHED_NUMBER};
+use crate::readers::answer::{Answer, CountAnswer};
 use crate::readers::call::{ByteSet, Call, Case, State, COUNTED, READERS, SPECIAL};
 use crate::readers::refusal::{
     ACCEPTED, CONSECUTIVE_INTEGER, COUNTS_EXCEED_THE_CURSOR, CURSOR_PAST_THE_END,
@@ -29,12 +29,12 @@ const NAMES: [(u32, &str); 8] = [
     (UNKNOWN_READER, "19, reader byte above 3"),
 ];
 
-const BUFFERS: [&[u8]; 5] = [b"", b"_", b"1", b"1_2", b"__1__"];
+pub const BUFFERS: [&[u8]; 5] = [b"", b"_", b"1", b"1_2", b"__1__"];
 
 /// Some of these add up to a small number if the sum wraps.
 const COUNTS: [usize; 5] = [0, 1, 2, usize::MAX / 2 + 1, usize::MAX];
 
-const CALLS: [Call; 9] = [
+pub const CALLS: [Call; 9] = [
     Call::Peek,
     Call::Next,
     Call::NextAll,
@@ -86,7 +86,7 @@ fn words() -> impl Iterator<Item = Word> {
     })
 }
 
-fn consecutive_alone() -> Word {
+pub fn consecutive_alone() -> Word {
     let flags = COUNTED.map(|reader| reader_flags(reader, C));
     DECIMAL.with_bits(flags.iter().sum::<u64>() | SPECIAL_SEPARATOR)
 }
@@ -112,7 +112,7 @@ fn compare_states(groups: &mut Groups, word: Word, buffer: &[u8], reader: u8) {
 }
 
 /// All within the buffer, and some past its end.
-fn cursors(buffer: &[u8]) -> impl Iterator<Item = usize> {
+pub fn cursors(buffer: &[u8]) -> impl Iterator<Item = usize> {
     let past_the_end = [buffer.len() + 1, 1 << 32, usize::MAX - 1, usize::MAX];
     (0..=buffer.len()).chain(past_the_end)
 }
@@ -130,12 +130,17 @@ fn compare_count(groups: &mut Groups, case: &Case) {
     let count = if number == ACCEPTED {
         answer.count
     } else {
-        UNTOUCHED_NUMBER
+        library::UNTOUCHED_NUMBER
+    };
+    let expected = CountAnswer {
+        number,
+        count,
+        kept: true,
     };
     group_of(groups, number).agree(
         &format_args!("current_count, {case}"),
         ("library", answer),
-        ("definition", CountAnswer { number, count }),
+        ("definition", expected),
     );
 }
 
@@ -156,12 +161,17 @@ fn compare_plain(groups: &mut Groups, buffer: &[u8], reader: u8) {
     }
 }
 
-/// Of a call that is due no refusal, the number alone is compared here.
+/// Of a call that is due no refusal, only the number and what it keeps are
+/// compared here.
 fn compare_answer(groups: &mut Groups, case: &Case, call: Call, number: u32, answer: Answer) {
     let expected = if number == ACCEPTED {
-        Answer { number, ..answer }
+        Answer {
+            number,
+            kept: true,
+            ..answer
+        }
     } else {
-        Answer::refused(number, call, case.state)
+        Answer::refused(number, case.state)
     };
     group_of(groups, number).agree(
         &format_args!("{call}, {case}"),

@@ -71,7 +71,7 @@ impl Tally {
     fn check(&mut self, list: &List) {
         let answers = list.rust.run(list.buffer, list.calls);
         let reads = list.rust.run_by_reads(list.buffer, list.calls);
-        let mut history = History::new(list.rust.word());
+        let mut history = History::new(list.rust.word(), list.buffer);
         for (place, answer) in answers.iter().enumerate() {
             self.check_zero_skip(list, place, answer, &reads[place]);
             for read in &reads[place] {
@@ -92,10 +92,11 @@ impl Tally {
         let zeros = reads.iter().map(|read| read.taken).sum();
         let of_reads = Answer {
             number: ACCEPTED,
-            found: Found::Zeros(zeros),
+            found: Found::zeros(zeros),
             taken: zeros,
             passed: reads.iter().map(|read| read.passed).sum(),
             state: reads[reads.len() - 1].state,
+            kept: true,
         };
         self.zero_skips.agree(
             &list.at(place),
@@ -108,7 +109,7 @@ impl Tally {
     fn check_run(&mut self, list: &List, place: usize, answer: &Answer, before: &History) {
         if answer.passed > 0 {
             let reader = list.calls[place].reader;
-            let may_pass = before.may_pass(list.buffer, reader, answer.passed);
+            let may_pass = before.may_pass(reader, answer.passed);
             self.runs.agree(
                 &list.at(place),
                 ("passed", true),

@@ -3,7 +3,7 @@
 //! wrong build of it cannot agree with a wrong library unseen.
 
 use crate::group::{Group, Report};
-use crate::readers::answer::{Answer, Found, Part};
+use crate::readers::answer::{Answer, Found};
 use crate::readers::call::{Call, Case, State, INTEGER};
 use crate::readers::library;
 use crate::readers::sets::{I, ILC, ILTC, L, NONE};
@@ -12,7 +12,7 @@ use crate::readers::words::{compiled_for_integer, with_integer_flags};
 struct Written {
     case: Case<'static>,
     call: Call,
-    answer: Answer<'static>,
+    answer: Answer,
 }
 
 pub fn run(report: &mut Report) {
@@ -69,7 +69,7 @@ fn zero_skip(buffer: &'static [u8], set: u32, zeros: usize, cursor: usize) -> Wr
     Written {
         case,
         call: Call::SkipZeros,
-        answer: Answer::new(case.state, Found::Zeros(zeros), zeros, after),
+        answer: Answer::new(case.state, Found::zeros(zeros), zeros, after),
     }
 }
 
@@ -83,18 +83,17 @@ fn block(
 ) -> Written {
     let mut case = Case::fresh(with_integer_flags(set), buffer, INTEGER);
     case.state.cursor = cursor;
-    let taken = bytes.map_or(0, <[u8]>::len);
+    let left = &buffer[cursor..];
+    let part = bytes.map(|bytes| {
+        assert!(left.starts_with(bytes), "the bytes stand at the cursor");
+        &left[..bytes.len()]
+    });
+    let taken = part.map_or(0, <[u8]>::len);
     let mut after = case.state;
     after.cursor += taken;
-    let part = Part {
-        number: 0,
-        start: if bytes.is_some() { cursor } else { 0 },
-        bytes: Some(bytes.unwrap_or(b"")),
-    };
-    let has_block = u8::from(bytes.is_some());
     Written {
         case,
         call: Call::TakeN(n),
-        answer: Answer::new(case.state, Found::Block { has_block, part }, taken, after),
+        answer: Answer::new(case.state, Found::block(buffer, part), taken, after),
     }
 }

@@ -44,7 +44,6 @@ impl<'a> Column<'a> {
 
 impl Sums {
     /// With the answer for one more cell, which was taken to its end.
-    #[inline(always)]
     pub fn and(self, cell: &Answer, reader: u8) -> Self {
         let digits = match reader {
             SPECIAL => 0,

@@ -14,13 +14,13 @@ use crate::word::Word;
 /// is the definition's.
 pub trait Readers: Sync {
     fn word(&self) -> Word;
-    fn call<'a>(&self, case: &Case<'a>, call: Call) -> Answer<'a>;
+    fn call(&self, case: &Case, call: Call) -> Answer;
 
     /// Calls one after the other from a fresh state, by one `Bytes`.
-    fn run<'a>(&self, buffer: &'a [u8], list: &[Step]) -> Vec<Answer<'a>>;
+    fn run(&self, buffer: &[u8], list: &[Step]) -> Vec<Answer>;
 
     /// The same, with the answers of its reads for each zero skip.
-    fn run_by_reads<'a>(&self, buffer: &'a [u8], list: &[Step]) -> Vec<Vec<Answer<'a>>>;
+    fn run_by_reads(&self, buffer: &[u8], list: &[Step]) -> Vec<Vec<Answer>>;
 
     fn current_count(&self, case: &Case) -> usize;
     fn is_digit(&self, reader: u8, byte: u8) -> bool;
@@ -34,17 +34,17 @@ impl<const FORMAT: u128> Readers for Compiled<FORMAT> {
         Walk::<FORMAT>::WORD
     }
 
-    fn call<'a>(&self, case: &Case<'a>, call: Call) -> Answer<'a> {
+    fn call(&self, case: &Case, call: Call) -> Answer {
         let reader = case.reader;
         Walk::<FORMAT>::at(case.buffer, case.state).step(Step { reader, call })
     }
 
-    fn run<'a>(&self, buffer: &'a [u8], list: &[Step]) -> Vec<Answer<'a>> {
+    fn run(&self, buffer: &[u8], list: &[Step]) -> Vec<Answer> {
         let mut walk = Walk::<FORMAT>::at(buffer, State::default());
         list.iter().map(|&step| walk.step(step)).collect()
     }
 
-    fn run_by_reads<'a>(&self, buffer: &'a [u8], list: &[Step]) -> Vec<Vec<Answer<'a>>> {
+    fn run_by_reads(&self, buffer: &[u8], list: &[Step]) -> Vec<Vec<Answer>> {
         let mut walk = Walk::<FORMAT>::at(buffer, State::default());
         list.iter().map(|&step| walk.step_by_reads(step)).collect()
     }

@@ -3,139 +3,110 @@
 #![allow(unsafe_code)]
 
 mod functions;
+mod raw;
+
+pub use self::raw::{raw, RawAnswer, RawState, CURSOR_AT, EDITION, EDITION_AT, INTEGER_AT};
 
 use self::functions::*;
-use super::answer::{Answer, CountAnswer, Found, Part, UNTOUCHED, UNTOUCHED_NUMBER};
+use self::raw::{changing, is_kept};
+use super::answer::{Answer, CountAnswer, Found, UNTOUCHED};
 use super::call::{ByteSet, Call, Case, State};
 use super::column::{Column, Sums};
 use crate::word::Word;
 
-/// Makes a call with what all calls are given: the case with its state, which
-/// may be lent to be written to, and then what this one takes besides.
-macro_rules! ask {
-    ($function:ident, $case:expr, $state:expr, $($more:expr),*) => {{
-        let State { cursor, counts: [integer, fraction, exponent] } = $state;
-        // SAFETY: pointer and length are those of one slice; the rest are
-        // numbers and places of our own.
-        unsafe {
-            $function(
-                $case.buffer.as_ptr(),
-                $case.buffer.len(),
-                $case.word.lo(),
-                $case.word.hi(),
-                $case.reader,
-                cursor,
-                integer,
-                fraction,
-                exponent,
-                $($more),*
-            )
+/// What an answer holds before a call.
+pub const UNWRITTEN: RawAnswer = [UNTOUCHED; 4];
+
+/// What a place for one number holds before a call.
+pub const UNTOUCHED_NUMBER: usize = UNTOUCHED as usize;
+
+/// Makes a call as a caller does. Inlined, so that one who knows the call does
+/// not choose it again.
+#[inline(always)]
+pub fn ask(
+    call: Call,
+    buffer: &[u8],
+    reader: u8,
+    state: &mut RawState,
+    answer: &mut RawAnswer,
+) -> u32 {
+    let (s, len) = (buffer.as_ptr(), buffer.len());
+    // SAFETY: pointer and length are those of one slice; the rest are numbers
+    // and places that nobody else has.
+    unsafe {
+        match call {
+            Call::Peek => pawhetino_peek(s, len, reader, state, answer),
+            Call::Next => pawhetino_next(s, len, reader, state, answer),
+            Call::NextAll => pawhetino_next_all(s, len, reader, state, answer),
+            Call::ReadIf(ByteSet(set)) => pawhetino_read_if(s, len, reader, state, answer, &set),
+            Call::ReadIfValueCased(value) => {
+                pawhetino_read_if_value_cased(s, len, reader, state, answer, value)
+            }
+            Call::SkipZeros => pawhetino_skip_zeros(s, len, reader, state, answer),
+            Call::TakeN(n) => pawhetino_take_n(s, len, reader, state, answer, n),
         }
-    }};
-}
-
-/// Inlined, so that a caller who knows the call does not choose it again.
-#[inline(always)]
-pub fn call<'a>(case: &Case<'a>, call: Call) -> Answer<'a> {
-    match call {
-        Call::SkipZeros => skip_zeros(case),
-        Call::TakeN(n) => take_n(case, n),
-        _ => find_byte(case, call),
     }
 }
 
-#[inline(always)]
-fn find_byte<'a>(case: &Case<'a>, call: Call) -> Answer<'a> {
-    let mut state = case.state;
-    let mut places = Places::unwritten();
-    macro_rules! ask_for_byte {
-        ($function:ident $(, $more:expr)*) => {
-            ask!(
-                $function,
-                case,
-                &mut state,
-                &mut places.has_byte,
-                &mut places.byte,
-                &mut places.taken,
-                &mut places.passed
-                $(, $more)*
-            )
-        };
+pub fn call(case: &Case, call: Call) -> Answer {
+    let before = raw(case);
+    let mut state = before;
+    let mut answer = UNWRITTEN;
+    let number = ask(call, case.buffer, case.reader, &mut state, &mut answer);
+    Answer {
+        kept: is_kept(&before, &state),
+        ..answered(number, answer, changing(&state))
     }
-    let number = match call {
-        Call::Peek => ask_for_byte!(pawhetino_peek),
-        Call::Next => ask_for_byte!(pawhetino_next),
-        Call::NextAll => ask_for_byte!(pawhetino_next_all),
-        Call::ReadIf(ByteSet([a, b, c, d])) => ask_for_byte!(pawhetino_read_if, a, b, c, d),
-        Call::ReadIfValueCased(value) => ask_for_byte!(pawhetino_read_if_value_cased, value),
-        Call::SkipZeros | Call::TakeN(_) => panic!("not a call that finds a byte"),
+}
+
+/// A peek or a take by the plain reader, which has no word and no counts.
+pub fn plain_call(case: &Case, call: Call) -> Answer {
+    let function = match call {
+        Call::Peek => pawhetino_plain_peek,
+        Call::Next => pawhetino_plain_next,
+        _ => panic!("the plain reader has no such call"),
     };
-    places.answer(number, state)
+    let mut state = case.state;
+    let mut answer = UNWRITTEN;
+    let (s, len) = (case.buffer.as_ptr(), case.buffer.len());
+    // SAFETY: as above.
+    let number = unsafe { function(s, len, case.reader, &mut state.cursor, &mut answer) };
+    answered(number, answer, state)
 }
 
-#[inline(always)]
-fn skip_zeros<'a>(case: &Case<'a>) -> Answer<'a> {
-    let mut state = case.state;
-    let [mut zeros, mut taken, mut passed] = [UNTOUCHED_NUMBER; 3];
-    let number = ask!(
-        pawhetino_skip_zeros,
-        case,
-        &mut state,
-        &mut zeros,
-        &mut taken,
-        &mut passed
-    );
+fn answered(number: u32, answer: RawAnswer, state: State) -> Answer {
+    let [is_there, what, taken, passed] = answer;
     Answer {
         number,
-        found: Found::Zeros(zeros),
-        taken,
-        passed,
+        found: Found { is_there, what },
+        taken: taken as usize,
+        passed: passed as usize,
         state,
+        kept: true,
     }
 }
 
-/// Two calls on the same arguments: the second is asked for the part.
-#[inline(always)]
-fn take_n<'a>(case: &Case<'a>, n: usize) -> Answer<'a> {
-    let mut state = case.state;
-    let mut has_block = UNTOUCHED;
-    let [mut taken, mut passed] = [UNTOUCHED_NUMBER; 2];
-    let number = ask!(
-        pawhetino_take_n,
-        case,
-        &mut state,
-        &mut has_block,
-        &mut taken,
-        &mut passed,
-        n
-    );
-    let part = take_n_part(case, n);
-    Answer {
+pub fn current_count(case: &Case) -> CountAnswer {
+    ask_count(case.buffer, case.reader, raw(case))
+}
+
+/// The state is lent where it could be written to, to see that it is not.
+pub fn ask_count(buffer: &[u8], reader: u8, before: RawState) -> CountAnswer {
+    let mut state = before;
+    let mut count = UNTOUCHED_NUMBER;
+    let (s, len) = (buffer.as_ptr(), buffer.len());
+    // SAFETY: as above.
+    let number = unsafe { pawhetino_current_count(s, len, reader, &raw mut state, &mut count) };
+    CountAnswer {
         number,
-        found: Found::Block { has_block, part },
-        taken,
-        passed,
-        state,
+        count,
+        kept: state == before,
     }
 }
 
-#[inline(always)]
-fn take_n_part<'a>(case: &Case<'a>, n: usize) -> Part<'a> {
-    let [mut start, mut length] = [UNTOUCHED_NUMBER; 2];
-    let number = ask!(
-        pawhetino_take_n_part,
-        case,
-        case.state,
-        &mut start,
-        &mut length,
-        n
-    );
-    let rest = case.buffer.get(start..);
-    Part {
-        number,
-        start,
-        bytes: rest.and_then(|rest| rest.get(..length)),
-    }
+/// Makes the state that a word is read from, in a place that is lent.
+pub fn fresh(word: Word, edition: u64, state: &mut RawState) -> u32 {
+    pawhetino_fresh(word.lo(), word.hi(), edition, state)
 }
 
 /// Takes every cell of a column to its end, in one call.
@@ -165,77 +136,10 @@ pub fn next_all_column(column: &Column) -> Sums {
     }
 }
 
-/// A peek or a take by the plain reader, which has no word and no counts.
-pub fn plain_call<'a>(case: &Case<'a>, call: Call) -> Answer<'a> {
-    let function = match call {
-        Call::Peek => pawhetino_plain_peek,
-        Call::Next => pawhetino_plain_next,
-        _ => panic!("the plain reader has no such call"),
-    };
-    let mut state = case.state;
-    let mut places = Places::unwritten();
-    // SAFETY: as above.
-    let number = unsafe {
-        function(
-            case.buffer.as_ptr(),
-            case.buffer.len(),
-            case.reader,
-            &mut state.cursor,
-            &mut places.has_byte,
-            &mut places.byte,
-            &mut places.taken,
-            &mut places.passed,
-        )
-    };
-    places.answer(number, state)
-}
-
-pub fn current_count(case: &Case) -> CountAnswer {
-    let mut count = UNTOUCHED_NUMBER;
-    let number = ask!(pawhetino_current_count, case, case.state, &mut count);
-    CountAnswer { number, count }
-}
-
 pub fn is_digit(word: Word, byte: u8) -> bool {
     pawhetino_is_digit(word.lo(), word.hi(), byte)
 }
 
 pub fn is_digit_separator(word: Word, byte: u8) -> bool {
     pawhetino_is_digit_separator(word.lo(), word.hi(), byte)
-}
-
-/// Where a call that finds a byte writes to, besides the state. Nothing there
-/// is read, so nothing has a meaning before the call.
-struct Places {
-    has_byte: u8,
-    byte: u8,
-    taken: usize,
-    passed: usize,
-}
-
-impl Places {
-    fn unwritten() -> Self {
-        Self {
-            has_byte: UNTOUCHED,
-            byte: UNTOUCHED,
-            taken: UNTOUCHED_NUMBER,
-            passed: UNTOUCHED_NUMBER,
-        }
-    }
-
-    /// Where there is no byte, it may be anything, unless the call was refused.
-    fn answer<'a>(self, number: u32, state: State) -> Answer<'a> {
-        let Self { has_byte, byte, .. } = self;
-        let is_anything = number == 0 && has_byte == 0;
-        Answer {
-            number,
-            found: Found::Byte {
-                has_byte,
-                byte: if is_anything { 0 } else { byte },
-            },
-            taken: self.taken,
-            passed: self.passed,
-            state,
-        }
-    }
 }

@@ -1,8 +1,8 @@
 //! The crate's calls with the word at run time, as one would write them in
-//! plain safe Rust: what it costs that the word is data.
+//! plain safe Rust: what it costs that the word is data. A case stands in the
+//! place of the crate's `Bytes`: a call changes its state.
 
-use super::answer::{Answer, Found};
-use super::call::{Case, State, SPECIAL};
+use super::call::{Case, SPECIAL};
 use super::column::{Column, Sums};
 use super::sets::{C, NONE};
 use super::table::View;
@@ -14,10 +14,51 @@ struct Port<'a> {
 }
 
 #[inline(always)]
-pub fn next_all<'a>(case: &Case<'a>) -> Answer<'a> {
-    let mut port = Port::new(case);
-    let taken = port.take_all();
-    port.answer(case, Found::byte(None), taken)
+pub fn peek(case: &mut Case) -> Option<u8> {
+    with_port(case, Port::peek)
+}
+
+#[inline(always)]
+pub fn next(case: &mut Case) -> Option<u8> {
+    with_port(case, Port::next)
+}
+
+/// How many bytes were taken.
+#[inline(always)]
+pub fn next_all(case: &mut Case) -> usize {
+    with_port(case, Port::take_all)
+}
+
+#[inline(always)]
+pub fn read_if_value_cased(case: &mut Case, value: u8) -> Option<u8> {
+    with_port(case, |port| port.read(value))
+}
+
+/// How many zeros were skipped.
+#[inline(always)]
+pub fn skip_zeros(case: &mut Case) -> usize {
+    with_port(case, |port| {
+        let mut zeros = 0;
+        while port.read(b'0').is_some() {
+            port.count += 1;
+            zeros += 1;
+        }
+        zeros
+    })
+}
+
+#[inline(always)]
+pub fn take_n<'a>(case: &mut Case<'a>, n: usize) -> Option<&'a [u8]> {
+    let buffer = case.buffer;
+    with_port(case, |port| {
+        if port.view.set != NONE {
+            return None;
+        }
+        let left = &buffer[port.cursor..];
+        let part = &left[..n.min(left.len())];
+        port.cursor += part.len();
+        Some(part)
+    })
 }
 
 /// The word's fields are read once for the whole column.
@@ -40,28 +81,16 @@ pub fn next_all_column(column: &Column) -> Sums {
     sums
 }
 
+/// The word's fields are read at each call.
 #[inline(always)]
-pub fn skip_zeros<'a>(case: &Case<'a>) -> Answer<'a> {
+fn with_port<'a, T>(case: &mut Case<'a>, call: impl FnOnce(&mut Port<'a>) -> T) -> T {
     let mut port = Port::new(case);
-    let mut zeros = 0;
-    while port.peek() == Some(b'0') {
-        port.cursor += 1;
-        port.count += 1;
-        zeros += 1;
+    let found = call(&mut port);
+    case.state.cursor = port.cursor;
+    if case.reader != SPECIAL {
+        case.state.counts[usize::from(case.reader)] = port.count;
     }
-    port.answer(case, Found::Zeros(zeros), zeros)
-}
-
-#[inline(always)]
-pub fn take_n<'a>(case: &Case<'a>, n: usize) -> Answer<'a> {
-    let mut port = Port::new(case);
-    if port.view.set != NONE {
-        return port.answer(case, Found::block(case.buffer, None), 0);
-    }
-    let left = &case.buffer[port.cursor..];
-    let part = &left[..n.min(left.len())];
-    port.cursor += part.len();
-    port.answer(case, Found::block(case.buffer, Some(part)), part.len())
+    found
 }
 
 impl<'a> Port<'a> {
@@ -94,6 +123,12 @@ impl<'a> Port<'a> {
         Some(byte)
     }
 
+    fn read(&mut self, value: u8) -> Option<u8> {
+        let byte = self.peek().filter(|&byte| byte == value)?;
+        self.cursor += 1;
+        Some(byte)
+    }
+
     fn peek(&mut self) -> Option<u8> {
         let byte = self.view.at(self.cursor);
         if !self.view.is_separator(byte) || !self.view.may_pass(self.cursor, self.count) {
@@ -104,17 +139,5 @@ impl<'a> Port<'a> {
             self.cursor = self.view.end_of_run(self.cursor);
         }
         self.view.at(self.cursor)
-    }
-
-    #[inline(always)]
-    fn answer(&self, case: &Case, found: Found<'a>, taken: usize) -> Answer<'a> {
-        let mut after = State {
-            cursor: self.cursor,
-            ..case.state
-        };
-        if case.reader != SPECIAL {
-            after.counts[usize::from(case.reader)] = self.count;
-        }
-        Answer::new(case.state, found, taken, after)
     }
 }

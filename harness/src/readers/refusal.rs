@@ -10,6 +10,7 @@ pub const CURSOR_PAST_THE_END: u32 = 16;
 pub const COUNTS_EXCEED_THE_CURSOR: u32 = 17;
 pub const SPECIAL_HAS_NO_SUCH_CALL: u32 = 18;
 pub const UNKNOWN_READER: u32 = 19;
+pub const UNKNOWN_EDITION: u32 = 19;
 
 /// The first number that is due to a call, or 0.
 pub fn of_call(case: &Case, call: Call) -> u32 {

@@ -58,14 +58,14 @@ impl<'a, const FORMAT: u128> Walk<'a, FORMAT> {
         Self { bytes, state }
     }
 
-    pub fn step(&mut self, step: Step) -> Answer<'a> {
+    pub fn step(&mut self, step: Step) -> Answer {
         match self.refusal(step) {
             refusal::ACCEPTED => self.call(step),
-            number => Answer::refused(number, step.call, self.state),
+            number => Answer::refused(number, self.state),
         }
     }
 
-    pub fn step_by_reads(&mut self, step: Step) -> Vec<Answer<'a>> {
+    pub fn step_by_reads(&mut self, step: Step) -> Vec<Answer> {
         let skips_zeros = matches!(step.call, Call::SkipZeros);
         if skips_zeros && self.refusal(step) == refusal::ACCEPTED {
             self.zero_reads(step.reader)
@@ -84,20 +84,20 @@ impl<'a, const FORMAT: u128> Walk<'a, FORMAT> {
         refusal::of_call(&case, call)
     }
 
-    fn call(&mut self, Step { reader, call }: Step) -> Answer<'a> {
+    fn call(&mut self, Step { reader, call }: Step) -> Answer {
         let (found, taken) = match call {
             Call::TakeN(n) => self.take_n(reader, n),
             _ => with_reader!(self.bytes, reader, |iter| ask(iter, call)),
         };
-        let zeros = match found {
-            Found::Zeros(zeros) => zeros,
+        let zeros = match call {
+            Call::SkipZeros => taken,
             _ => 0,
         };
         self.answer(reader, found, taken, zeros)
     }
 
     /// The reads that a zero skip consists of, up to the first that fails.
-    fn zero_reads(&mut self, reader: u8) -> Vec<Answer<'a>> {
+    fn zero_reads(&mut self, reader: u8) -> Vec<Answer> {
         let mut answers = Vec::new();
         loop {
             let byte = with_reader!(self.bytes, reader, |iter| read_zero(iter));
@@ -112,7 +112,7 @@ impl<'a, const FORMAT: u128> Walk<'a, FORMAT> {
     /// In the crate the sum of `n` and the cursor can wrap, and what follows is
     /// undefined. For such an `n` it is asked for the most that it can be: both
     /// are more than is left.
-    fn take_n(&mut self, reader: u8, n: usize) -> (Found<'a>, usize) {
+    fn take_n(&mut self, reader: u8, n: usize) -> (Found, usize) {
         let n = n.min(usize::MAX - self.bytes.cursor());
         let block = match reader {
             INTEGER => self.bytes.integer_iter().take_n(n),
@@ -126,7 +126,7 @@ impl<'a, const FORMAT: u128> Walk<'a, FORMAT> {
     }
 
     /// The answer of a call that skipped so many zeros.
-    fn answer(&mut self, reader: u8, found: Found<'a>, taken: usize, zeros: usize) -> Answer<'a> {
+    fn answer(&mut self, reader: u8, found: Found, taken: usize, zeros: usize) -> Answer {
         let before = self.state;
         let shown = [
             self.bytes.integer_iter().current_count(),
@@ -175,13 +175,13 @@ impl<'a, const FORMAT: u128> Walk<'a, FORMAT> {
 }
 
 /// What the call finds, and how many bytes it took.
-fn ask<'a>(iter: &mut impl DigitsIter<'a>, call: Call) -> (Found<'a>, usize) {
+fn ask<'a>(iter: &mut impl DigitsIter<'a>, call: Call) -> (Found, usize) {
     let byte = match call {
         Call::Peek => return (Found::byte(iter.peek().copied()), 0),
-        Call::NextAll => return (Found::byte(None), next_all(iter)),
+        Call::NextAll => return (Found::NOTHING, next_all(iter)),
         Call::SkipZeros => {
             let zeros = iter.skip_zeros();
-            return (Found::Zeros(zeros), zeros);
+            return (Found::zeros(zeros), zeros);
         }
         Call::Next => next(iter),
         Call::ReadIf(set) => iter.read_if(|byte| set.contains(byte)),

@@ -15,7 +15,7 @@
 
 use std::io::{self, Write};
 
-use crate::readers::answer::{Answer, Found};
+use crate::readers::answer::Answer;
 use crate::readers::call::{Call, Case, COUNTED, READERS};
 use crate::readers::refusal::ACCEPTED;
 use crate::readers::words::compiled;
@@ -78,7 +78,7 @@ fn write_lines(out: &mut impl Write, rng: &mut Rng, kind: Kind, reader: u8) -> i
             continue;
         }
         let answer = rust.call(&case, call);
-        let wanted = if is_telling(&answer) {
+        let wanted = if kind.is_telling(&answer) {
             &mut telling
         } else {
             &mut others
@@ -89,16 +89,6 @@ fn write_lines(out: &mut impl Write, rng: &mut Rng, kind: Kind, reader: u8) -> i
         }
     }
     Ok(())
-}
-
-/// Separators were passed, and zeros skipped if that was asked for; or there is
-/// a block with something in it.
-fn is_telling(answer: &Answer) -> bool {
-    match answer.found {
-        Found::Byte { .. } => answer.passed > 0,
-        Found::Zeros(zeros) => answer.passed > 0 && zeros > 0,
-        Found::Block { .. } => answer.taken > 0,
-    }
 }
 
 impl Kind {
@@ -130,10 +120,25 @@ impl Kind {
         }
     }
 
-    fn packed(self, answer: &Answer) -> u64 {
-        match (self, answer.found) {
-            (Self::TakeNPart, Found::Block { part, .. }) => packed_part(part.bytes.unwrap_or(&[])),
-            _ => packed_answer(answer),
+    /// Separators were passed, and zeros skipped if that was asked for; or there
+    /// is a block with something in it.
+    fn is_telling(self, answer: &Answer) -> bool {
+        match self {
+            Self::SkipZeros => answer.passed > 0 && answer.taken > 0,
+            Self::TakeN | Self::TakeNPart => answer.taken > 0,
+            _ => answer.passed > 0,
+        }
+    }
+
+    fn packed(self, case: &Case, answer: &Answer) -> u64 {
+        let found = answer.found;
+        match self {
+            Self::SkipZeros => packed_answer(answer, 1, found.what),
+            Self::TakeN => packed_answer(answer, found.is_there, 0),
+            Self::TakeNPart if found.is_there == 0 => packed_part(&[]),
+            Self::TakeNPart => packed_part(&case.buffer[found.what as usize..][..answer.taken]),
+            _ if found.is_there == 0 => packed_answer(answer, 0, 0),
+            _ => packed_answer(answer, 1, found.what),
         }
     }
 }
@@ -163,20 +168,15 @@ fn write_line(
         case.word.lo(),
         case.word.hi(),
         packed_buffer(case.buffer),
-        kind.packed(answer),
+        kind.packed(case, answer),
     )
 }
 
-fn packed_answer(answer: &Answer) -> u64 {
-    let (is_there, found) = match answer.found {
-        Found::Byte { has_byte, byte } => (has_byte.into(), byte.into()),
-        Found::Zeros(zeros) => (1, zeros),
-        Found::Block { has_block, .. } => (has_block.into(), 0),
-    };
+fn packed_answer(answer: &Answer, is_there: u64, found: u64) -> u64 {
     let [integer, fraction, exponent] = answer.state.counts;
     packed_numbers([
-        is_there,
-        found,
+        is_there as usize,
+        found as usize,
         answer.state.cursor,
         answer.passed,
         integer,

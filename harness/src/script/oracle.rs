@@ -83,7 +83,7 @@ impl Run {
     }
 
     /// The crate's answers to the calls, from a fresh state.
-    fn answers(&self) -> Option<Vec<Answer<'_>>> {
+    fn answers(&self) -> Option<Vec<Answer>> {
         if self.steps.is_empty() {
             return Some(Vec::new());
         }
@@ -137,12 +137,14 @@ fn call(kind: u8, arguments: &[u8]) -> Call {
 /// was not has nothing to show at all.
 pub fn line(call: Call, answer: &Answer) -> String {
     let kind = records::kind(call);
-    let shown = match answer.found {
+    let Found { is_there, what } = answer.found;
+    let shown = match call {
         _ if answer.number != 0 => return format!("{kind} !{}\n", answer.number),
-        Found::Block { has_block: 0, .. } => return format!("{kind} none\n"),
-        Found::Byte { has_byte: 0, .. } | Found::Block { .. } => "-".to_owned(),
-        Found::Byte { byte, .. } => byte.to_string(),
-        Found::Zeros(zeros) => zeros.to_string(),
+        Call::SkipZeros => what.to_string(),
+        Call::TakeN(_) if is_there == 0 => return format!("{kind} none\n"),
+        Call::TakeN(_) => "-".to_owned(),
+        _ if is_there == 0 => "-".to_owned(),
+        _ => what.to_string(),
     };
     let (cursor, taken, passed) = (answer.state.cursor, answer.taken, answer.passed);
     format!("{kind} {shown} {cursor} {taken} {passed}\n")

@@ -1,4 +1,5 @@
-//! Grouped bars: how long the port and the library take where the crate takes 1.
+//! Grouped bars: how long the crate through a real call, the port and the library
+//! take where the crate takes 1.
 
 use super::scale::Scale;
 use super::svg::{Anchor, Picture, CHARACTER, INK, PALE};
@@ -7,11 +8,13 @@ use crate::bench::timing::{Span, ROUNDS};
 /// The bars of one row of a table: how many times as long as the crate.
 pub struct Bars {
     pub label: String,
+    pub called: Option<Span>,
     pub port: Option<Span>,
     pub rattle: Span,
 }
 
 /// Told apart by light and dark as well.
+const CALLED: &str = "#c9ced6";
 const PORT: &str = "#f0a840";
 const RATTLE: &str = "#5b93d0";
 
@@ -20,10 +23,19 @@ const MARGIN: f64 = 16.0;
 const TOP: f64 = 92.0;
 const BOTTOM: f64 = 56.0;
 const BAR: f64 = 13.0;
-const GROUP: f64 = 2.0 * BAR + 14.0;
+const GROUP: f64 = 3.0 * BAR + 14.0;
 
 /// Room for the number behind the longest bar.
 const NUMBER: f64 = 56.0;
+
+impl Bars {
+    /// The bars that there are, each with its colour.
+    fn drawn(&self) -> impl Iterator<Item = (&Span, &'static str)> + Clone {
+        let called = self.called.iter().map(|span| (span, CALLED));
+        let port = self.port.iter().map(|span| (span, PORT));
+        called.chain(port).chain([(&self.rattle, RATTLE)])
+    }
+}
 
 pub fn draw(rows: &[Bars]) -> String {
     let end = TOP + GROUP * rows.len() as f64;
@@ -43,10 +55,8 @@ pub fn draw(rows: &[Bars]) -> String {
 }
 
 fn numbers(rows: &[Bars]) -> impl Iterator<Item = f64> + Clone + '_ {
-    let spans = rows
-        .iter()
-        .flat_map(|row| row.port.iter().chain([&row.rattle]));
-    spans.flat_map(|span| [span.least, span.most])
+    let spans = rows.iter().flat_map(Bars::drawn);
+    spans.flat_map(|(span, _)| [span.least, span.most])
 }
 
 fn draw_head(picture: &mut Picture) {
@@ -55,6 +65,7 @@ fn draw_head(picture: &mut Picture) {
         "Time beside lexical-util with the word compiled in",
     );
     let legend = [
+        (CALLED, "crate, a real call for each"),
         (PORT, "plain Rust port, word at run time"),
         (RATTLE, "Rattle, word at run time"),
     ];
@@ -65,7 +76,7 @@ fn draw_head(picture: &mut Picture) {
         x += BAR + 30.0 + CHARACTER * name.len() as f64;
     }
     let marks = format!("marks: least to most of {ROUNDS} rounds");
-    picture.text([x, 54.0], Anchor::Start, &marks);
+    picture.text([WIDTH - MARGIN, 28.0], Anchor::End, &marks);
 }
 
 fn draw_axis(picture: &mut Picture, scale: &Scale, end: f64) {
@@ -83,15 +94,11 @@ fn draw_axis(picture: &mut Picture, scale: &Scale, end: f64) {
 }
 
 fn draw_row(picture: &mut Picture, scale: &Scale, row: &Bars, top: f64) {
-    let bars: Vec<(&Span, &str)> = match &row.port {
-        Some(port) => vec![(port, PORT), (&row.rattle, RATTLE)],
-        None => vec![(&row.rattle, RATTLE)],
-    };
     let middle = top + GROUP / 2.0;
     let label = [MARGIN, middle + 4.5];
     picture.text(label, Anchor::Start, &row.label);
-    let mut y = middle - BAR * bars.len() as f64 / 2.0;
-    for (span, colour) in bars {
+    let mut y = middle - BAR * row.drawn().count() as f64 / 2.0;
+    for (span, colour) in row.drawn() {
         draw_bar(picture, scale, span, colour, y);
         y += BAR;
     }

@@ -1,11 +1,10 @@
 //! The tables of growth, a line for each row.
 
-use super::instructions::Counts;
 use super::rows::{Row, LENGTHS, ROWS};
 use super::times::Times;
 use super::Costs;
 
-pub fn print_instructions(counts: &Counts) {
+pub fn print_instructions(counts: &[Costs]) {
     print_head(
         "Instructions of one call of the library",
         "Last step | Grows",

@@ -6,7 +6,8 @@ use super::rows::{Row, LENGTHS, ROWS};
 use super::Costs;
 use crate::bench::cells::Cells;
 use crate::bench::next_all::NextAll;
-use crate::bench::sides::{rust_under, Sides, Singly};
+use crate::bench::sides::passes;
+use crate::bench::singly::Singly;
 use crate::bench::timing::{agree, time_in_turn};
 use crate::readers::call::{Call, Case, INTEGER};
 use crate::readers::library;
@@ -49,18 +50,12 @@ fn measure_cell(cell: &[u8], set: u32) -> Option<[f64; 2]> {
     let copies = LENGTHS[LENGTHS.len() - 1] / cell.len();
     let buffer = cell.repeat(copies);
     let cells = Cells::cut(&buffer, [cell.len()].repeat(copies).into_iter());
-    let word = with_integer_flags(set);
     let sides = Singly(NextAll);
+    let [rust, .., rattle] = passes(&sides, set, &cells);
     let start = Instant::now();
-    sides.library(word, &cells);
+    rattle();
     let passes = ROUND / start.elapsed().as_nanos() as f64;
-    let timings = time_in_turn(
-        [&|| rust_under(&sides, set, &cells), &|| {
-            sides.library(word, &cells)
-        }],
-        copies,
-        passes.clamp(1.0, 1e4) as u32,
-    );
+    let timings = time_in_turn([&rust, &rattle], copies, passes.clamp(1.0, 1e4) as u32);
     agree(&timings).then(|| timings.map(|timing| timing.median()))
 }
 

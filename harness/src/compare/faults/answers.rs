@@ -10,7 +10,7 @@ use crate::readers::sets::{C, IL, ILC, ILTC, L, NONE};
 use crate::readers::table::View;
 use crate::word::{reader_flags, Field, Word, SPECIAL_SEPARATOR};
 
-pub const FAULTS: [Fault; 15] = [
+pub const FAULTS: [Fault; 17] = [
     Fault {
         name: "later ILC taken for later IC",
         asked: later_ilc_as_ic,
@@ -149,6 +149,22 @@ pub const FAULTS: [Fault; 15] = [
             reason: "no list of calls",
         },
     },
+    Fault {
+        name: "a byte is told where there is none",
+        asked: byte_told_without_one,
+        shown: Shown::Call {
+            bytes: 0,
+            reason: "no list of calls",
+        },
+    },
+    Fault {
+        name: "what is to be kept of a state is changed",
+        asked: changes_what_is_kept,
+        shown: Shown::Call {
+            bytes: 0,
+            reason: "no list of calls",
+        },
+    },
 ];
 
 /// The reader's stored count.
@@ -184,14 +200,14 @@ fn set(case: &Case) -> u32 {
     }
 }
 
-fn later_ilc_as_ic<'a>(case: &Case<'a>, what: Call) -> Answer<'a> {
+fn later_ilc_as_ic(case: &Case, what: Call) -> Answer {
     match set(case) {
         ILC if count(case) > 0 => call(&with_set(case, ILC & !L), what),
         _ => call(case, what),
     }
 }
 
-fn first_il_looks_ahead<'a>(case: &Case<'a>, what: Call) -> Answer<'a> {
+fn first_il_looks_ahead(case: &Case, what: Call) -> Answer {
     let view = View::new(case.word, case.reader, case.buffer);
     let before_separator = view.is_separator(view.at(case.state.cursor.wrapping_add(1)));
     match what {
@@ -204,7 +220,7 @@ fn first_il_looks_ahead<'a>(case: &Case<'a>, what: Call) -> Answer<'a> {
     }
 }
 
-fn take_counts_every_byte<'a>(case: &Case<'a>, what: Call) -> Answer<'a> {
+fn take_counts_every_byte(case: &Case, what: Call) -> Answer {
     let mut answer = call(case, what);
     let counts = case.reader != SPECIAL && set(case) != NONE && matches!(what, Call::Next);
     if counts && answer.taken > 0 {
@@ -213,7 +229,7 @@ fn take_counts_every_byte<'a>(case: &Case<'a>, what: Call) -> Answer<'a> {
     answer
 }
 
-fn end_told_early<'a>(case: &Case<'a>, what: Call) -> Answer<'a> {
+fn end_told_early(case: &Case, what: Call) -> Answer {
     match case.buffer {
         [but_one @ .., _] if case.state.cursor <= but_one.len() => {
             let buffer = but_one;
@@ -223,14 +239,14 @@ fn end_told_early<'a>(case: &Case<'a>, what: Call) -> Answer<'a> {
     }
 }
 
-fn peek_never_passes<'a>(case: &Case<'a>, what: Call) -> Answer<'a> {
+fn peek_never_passes(case: &Case, what: Call) -> Answer {
     match what {
         Call::Peek if set(case) != C => call(&with_set(case, NONE), what),
         _ => call(case, what),
     }
 }
 
-fn passes_at_the_start_only<'a>(case: &Case<'a>, what: Call) -> Answer<'a> {
+fn passes_at_the_start_only(case: &Case, what: Call) -> Answer {
     let passing_ends = case.state.cursor > 0 && set(case) != C;
     match what {
         Call::Peek | Call::ReadIfValueCased(_) if passing_ends => call(&with_set(case, NONE), what),
@@ -238,7 +254,7 @@ fn passes_at_the_start_only<'a>(case: &Case<'a>, what: Call) -> Answer<'a> {
     }
 }
 
-fn exponent_by_its_own_radix<'a>(case: &Case<'a>, what: Call) -> Answer<'a> {
+fn exponent_by_its_own_radix(case: &Case, what: Call) -> Answer {
     match case.word.field(Field::ExponentRadix) {
         radix if case.reader == EXPONENT && radix != 0 => {
             let word = case.word.with_field(Field::MantissaRadix, radix);
@@ -248,7 +264,7 @@ fn exponent_by_its_own_radix<'a>(case: &Case<'a>, what: Call) -> Answer<'a> {
     }
 }
 
-fn zero_skip_does_not_count<'a>(case: &Case<'a>, what: Call) -> Answer<'a> {
+fn zero_skip_does_not_count(case: &Case, what: Call) -> Answer {
     let mut answer = call(case, what);
     if matches!(what, Call::SkipZeros) {
         answer.state.counts = case.state.counts;
@@ -256,11 +272,11 @@ fn zero_skip_does_not_count<'a>(case: &Case<'a>, what: Call) -> Answer<'a> {
     answer
 }
 
-fn run_passed_too_short<'a>(case: &Case<'a>, what: Call) -> Answer<'a> {
+fn run_passed_too_short(case: &Case, what: Call) -> Answer {
     passed_too_short(case, what, 2)
 }
 
-fn special_passes_too_short<'a>(case: &Case<'a>, what: Call) -> Answer<'a> {
+fn special_passes_too_short(case: &Case, what: Call) -> Answer {
     match case.reader {
         SPECIAL => passed_too_short(case, what, 5),
         _ => call(case, what),
@@ -268,7 +284,7 @@ fn special_passes_too_short<'a>(case: &Case<'a>, what: Call) -> Answer<'a> {
 }
 
 /// Where a peek passes at least so many.
-fn passed_too_short<'a>(case: &Case<'a>, what: Call, at_least: usize) -> Answer<'a> {
+fn passed_too_short(case: &Case, what: Call, at_least: usize) -> Answer {
     let mut answer = call(case, what);
     if matches!(what, Call::Peek) && answer.passed >= at_least {
         answer.passed -= 1;
@@ -278,7 +294,7 @@ fn passed_too_short<'a>(case: &Case<'a>, what: Call, at_least: usize) -> Answer<
     answer
 }
 
-fn special_passes_as_integer<'a>(case: &Case<'a>, what: Call) -> Answer<'a> {
+fn special_passes_as_integer(case: &Case, what: Call) -> Answer {
     let integer = case.word.reader_set(0);
     match what {
         Call::Peek | Call::Next if case.reader == SPECIAL => call(&with_set(case, integer), what),
@@ -286,7 +302,7 @@ fn special_passes_as_integer<'a>(case: &Case<'a>, what: Call) -> Answer<'a> {
     }
 }
 
-fn block_leaves_a_byte<'a>(case: &Case<'a>, what: Call) -> Answer<'a> {
+fn block_leaves_a_byte(case: &Case, what: Call) -> Answer {
     match what {
         Call::TakeN(n) if n >= 9 => {
             let left = case.buffer.len().saturating_sub(case.state.cursor);
@@ -296,7 +312,7 @@ fn block_leaves_a_byte<'a>(case: &Case<'a>, what: Call) -> Answer<'a> {
     }
 }
 
-fn next_all_tells_less<'a>(case: &Case<'a>, what: Call) -> Answer<'a> {
+fn next_all_tells_less(case: &Case, what: Call) -> Answer {
     let mut answer = call(case, what);
     if matches!(what, Call::NextAll) {
         answer.taken = answer.taken.saturating_sub(1);
@@ -304,7 +320,7 @@ fn next_all_tells_less<'a>(case: &Case<'a>, what: Call) -> Answer<'a> {
     answer
 }
 
-fn digit_separator_does_not_pass<'a>(case: &Case<'a>, what: Call) -> Answer<'a> {
+fn digit_separator_does_not_pass(case: &Case, what: Call) -> Answer {
     let view = View::new(case.word, case.reader, &[]);
     let separator = Some(case.word.field(Field::Separator));
     match what {
@@ -316,7 +332,7 @@ fn digit_separator_does_not_pass<'a>(case: &Case<'a>, what: Call) -> Answer<'a> 
 }
 
 /// Where all before the cursor is separators, no digit can have been read.
-fn forgets_digits_never_read<'a>(case: &Case<'a>, what: Call) -> Answer<'a> {
+fn forgets_digits_never_read(case: &Case, what: Call) -> Answer {
     let mut answer = call(case, what);
     let view = View::new(case.word, case.reader, case.buffer);
     let read = case.buffer.get(..case.state.cursor);
@@ -325,4 +341,19 @@ fn forgets_digits_never_read<'a>(case: &Case<'a>, what: Call) -> Answer<'a> {
         answer.state.counts = [0; 3];
     }
     answer
+}
+
+fn byte_told_without_one(case: &Case, what: Call) -> Answer {
+    let mut answer = call(case, what);
+    if matches!(what, Call::Peek) && answer.found == Found::NOTHING {
+        answer.found.what = 0;
+    }
+    answer
+}
+
+fn changes_what_is_kept(case: &Case, what: Call) -> Answer {
+    Answer {
+        kept: !matches!(what, Call::Peek),
+        ..call(case, what)
+    }
 }

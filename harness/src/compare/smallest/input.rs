@@ -52,7 +52,7 @@ impl Input {
     }
 
     /// The crate's answers: to a list by one `Bytes`, as it was compared.
-    pub fn expected(&self) -> Vec<Answer<'_>> {
+    pub fn expected(&self) -> Vec<Answer> {
         if self.start == State::default() {
             return self.rust.run(&self.buffer, &self.steps);
         }
@@ -60,11 +60,11 @@ impl Input {
     }
 
     /// The other's, which goes on from the states that it returned.
-    pub fn answers(&self, asked: Asked) -> Vec<Answer<'_>> {
+    pub fn answers(&self, asked: Asked) -> Vec<Answer> {
         self.each_step(asked)
     }
 
-    fn each_step<'a>(&'a self, answer: impl Fn(&Case<'a>, Call) -> Answer<'a>) -> Vec<Answer<'a>> {
+    fn each_step(&self, answer: impl Fn(&Case, Call) -> Answer) -> Vec<Answer> {
         let mut case = self.case();
         let steps = self.steps.iter().map(|step| {
             case.reader = step.reader;

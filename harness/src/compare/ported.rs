@@ -1,0 +1,46 @@
+//! The port that the benchmark times, beside the crate.
+
+use crate::group::Group;
+use crate::readers::answer::{Answer, Found};
+use crate::readers::call::{Call, Case};
+use crate::readers::{port, refusal};
+
+/// The port has no refusals, and only the calls that are timed.
+pub fn compare(group: &mut Group, case: &Case, call: Call, expected: Answer) {
+    if refusal::of_call(case, call) != refusal::ACCEPTED {
+        return;
+    }
+    if let Some(answer) = answer(case, call) {
+        group.agree(
+            &format_args!("{call}, {case}"),
+            ("port", answer),
+            ("Rust", expected),
+        );
+    }
+}
+
+fn answer(case: &Case, call: Call) -> Option<Answer> {
+    let mut after = *case;
+    let (found, taken) = match call {
+        Call::Peek => (Found::byte(port::peek(&mut after)), 0),
+        Call::Next => of_byte(port::next(&mut after)),
+        Call::NextAll => (Found::NOTHING, port::next_all(&mut after)),
+        Call::ReadIf(_) => return None,
+        Call::ReadIfValueCased(value) => of_byte(port::read_if_value_cased(&mut after, value)),
+        Call::SkipZeros => {
+            let zeros = port::skip_zeros(&mut after);
+            (Found::zeros(zeros), zeros)
+        }
+        Call::TakeN(n) => {
+            let part = port::take_n(&mut after, n);
+            let found = Found::block(case.buffer, part);
+            (found, part.map_or(0, <[u8]>::len))
+        }
+    };
+    Some(Answer::new(case.state, found, taken, after.state))
+}
+
+/// What is found, and how many bytes were taken.
+fn of_byte(byte: Option<u8>) -> (Found, usize) {
+    (Found::byte(byte), usize::from(byte.is_some()))
+}
