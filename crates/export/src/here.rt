@@ -8,15 +8,17 @@ ghost use lib.ListN.{getD};
 ghost use Rattle.word.specs.Word.{mantissaRadix};
 ghost use Rattle.reader.specs.Reading.{hasAnyFlag, isConsecutiveAlone};
 ghost use Rattle.export.specs.State.{stateIn, stateWords};
-ghost use Rattle.export.specs.Code.Here.{hereOf, ownFlags, wordsPast};
+ghost use Rattle.export.specs.Code.Here.{hereOf, ownFlags, wordsAt};
 use word::format_flags::Format;
 use word::format_flags::bit_at;
 
-// What is under the cursor of a reader that counts and is not refused, on a state of a known edition: a byte that is no separator, the
-// end, or something else; and something else where that is not so.
+// What is under the cursor of a reader that counts and is not refused, on a state of a known edition; for any other it is not told.
 pub enum Here {
+    // A byte other than the word's separator.
     Byte(u8),
     End,
+    // That byte, which is no separator where it is 0.
+    Separator,
     Other,
 }
 
@@ -88,7 +90,7 @@ pub(crate) fn found_here(s: &[u8], reader: u8, state: &[u64; 8]) -> Here
     let hi = state[1];
     let format = Format { lo, hi };
     if b == format.digit_separator() {
-        return Here::Other;
+        return Here::Separator;
     }
     Here::Byte(b)
 }
@@ -120,10 +122,10 @@ pub(crate) fn answer_none(state: &mut [u64; 8], answer: &mut [u64; 4]) -> u32
     0
 }
 
-// Moves the cursor past a byte, and raises the reader's own count by one where it is counted.
-pub(crate) fn put_past(w: &mut [u64; 8], reader: u8, counted: bool, past: u64)
-    requires { ⌜ (reader ≤ 2) × ((getD (now w) 3 0 + getD (now w) 4 0 + getD (now w) 5 0 ≤ getD (now w) 2 0) × (past ≡ getD (now w) 2 0 + 1)) ⌝ }
-    ensures { λ _. ⌜ now (w .exit) ≡ wordsPast (now (w .entry)) reader counted ⌝ }
+// Moves the cursor to a place, and raises the reader's own count by one where a byte is counted.
+pub(crate) fn put_at(w: &mut [u64; 8], reader: u8, counted: bool, place: u64)
+    requires { ⌜ (reader ≤ 2) × ((getD (now w) 3 0 + getD (now w) 4 0 + getD (now w) 5 0 ≤ getD (now w) 2 0) × (getD (now w) 2 0 + 1 < 2 ^ 64)) ⌝ }
+    ensures { λ _. ⌜ now (w .exit) ≡ wordsAt (now (w .entry)) reader counted place ⌝ }
 {
     let lo = w[0];
     let hi = w[1];
@@ -133,19 +135,19 @@ pub(crate) fn put_past(w: &mut [u64; 8], reader: u8, counted: bool, past: u64)
     let kept = w[6];
     let edition = w[7];
     if !counted {
-        *w = [lo, hi, past, integer, fraction, exponent, kept, edition];
+        *w = [lo, hi, place, integer, fraction, exponent, kept, edition];
         return;
     }
     if reader == 0 {
         let one = integer + 1;
-        *w = [lo, hi, past, one, fraction, exponent, kept, edition];
+        *w = [lo, hi, place, one, fraction, exponent, kept, edition];
         return;
     }
     if reader == 1 {
         let one = fraction + 1;
-        *w = [lo, hi, past, integer, one, exponent, kept, edition];
+        *w = [lo, hi, place, integer, one, exponent, kept, edition];
         return;
     }
     let one = exponent + 1;
-    *w = [lo, hi, past, integer, fraction, one, kept, edition];
+    *w = [lo, hi, place, integer, fraction, one, kept, edition];
 }

@@ -18,6 +18,7 @@ pub mod count;
 pub mod here;
 pub mod next;
 pub mod next_all;
+pub mod over;
 pub mod peek;
 pub mod plain;
 pub mod read;

@@ -8,8 +8,9 @@ use crate::here::answer_none;
 use crate::here::found_here;
 use crate::here::has_any;
 use crate::here::own_bits;
-use crate::here::put_past;
+use crate::here::put_at;
 use crate::here::radix_of;
+use crate::over::over_here;
 use crate::reply::of_answer;
 use crate::reply::put;
 use crate::reply::refused;
@@ -69,10 +70,16 @@ pub extern "C" fn pawhetino_next(
             let past = cursor + 1;
             let byte = wide(b);
             *answer = [1, byte, 1, 0];
-            put_past(&mut *state, reader, counted, past);
+            put_at(&mut *state, reader, counted, past);
             0
         }
         Here::End => answer_none(&mut *state, &mut *answer),
+        Here::Separator => {
+            if over_here(s, reader, &mut *state, &mut *answer, true) {
+                return 0;
+            }
+            next_any(&s[..], reader, &mut *state, &mut *answer)
+        }
         Here::Other => next_any(&s[..], reader, &mut *state, &mut *answer),
     }
 }

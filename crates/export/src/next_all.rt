@@ -5,13 +5,13 @@ ghost use mathlib.Core.Bool.{true, false, cond};
 ghost use Prim.Native.Nat.{_+_, _<_, _≤_, _^_};
 ghost use lib.Dec.{eqb};
 ghost use lib.ListN.{length};
-ghost use Rattle.word.specs.Word.{flag};
 ghost use Rattle.word.specs.Digit.{isDigit};
 ghost use Rattle.export.specs.State.{stateWords};
 ghost use Rattle.export.specs.Answer.{byteWords};
 ghost use Rattle.export.specs.Calls.{takenAllBy};
 ghost use Rattle.export.specs.Code.GroupedCell.{GroupedCell};
 use crate::here::radix_of;
+use crate::over::has_internal;
 use crate::reply::of_answer;
 use crate::reply::put;
 use crate::reply::refused;
@@ -21,7 +21,6 @@ use reader::skip::next_all;
 use reader::state::Named;
 use word::digit::char_is_digit_by_range;
 use word::format_flags::Format;
-use word::format_flags::bit_at;
 
 // As the reader answers it.
 fn next_all_any(s: &[u8], reader: u8, state: &mut [u64; 8], answer: &mut [u64; 4]) -> u32
@@ -111,14 +110,6 @@ fn grouped_cell(s: &[u8], separator: u8, radix: u8) -> Grouped
     }
 }
 
-fn has_internal(format: Format, reader: u8) -> bool
-    requires { ⌜ reader ≤ 2 ⌝ }
-    ensures { λ r. ⌜ r ≡ flag format (32 + reader) ⌝ }
-{
-    let position = 32 + reader as u32;
-    bit_at(format.lo, position)
-}
-
 // The count for the reader that it is, 0 for another.
 fn own(reader: u8, which: u8, count: u64) -> u64
     ensures { λ r. ⌜ r ≡ cond (eqb reader which) count 0 ⌝ }
@@ -167,8 +158,6 @@ pub extern "C" fn pawhetino_next_all(
     let passed = grouped.passed as u64;
     let end = s.len() as u64;
     let taken = end - passed;
-    let old = answer[1];
-    *answer = [0, old, taken, passed];
     let by_integer = own(reader, 0, count);
     let by_fraction = own(reader, 1, count);
     let by_exponent = own(reader, 2, count);
@@ -183,5 +172,7 @@ pub extern "C" fn pawhetino_next_all(
         kept,
         edition,
     ];
+    let old = answer[1];
+    *answer = [0, old, taken, passed];
     0
 }

@@ -7,6 +7,7 @@ use crate::here::Here;
 use crate::here::answer_none;
 use crate::here::found_here;
 use crate::here::keep;
+use crate::over::over_here;
 use crate::reply::of_answer;
 use crate::reply::put;
 use crate::reply::refused;
@@ -61,6 +62,12 @@ pub extern "C" fn pawhetino_peek(
             0
         }
         Here::End => answer_none(&mut *state, &mut *answer),
+        Here::Separator => {
+            if over_here(s, reader, &mut *state, &mut *answer, false) {
+                return 0;
+            }
+            peek_any(&s[..], reader, &mut *state, &mut *answer)
+        }
         Here::Other => peek_any(&s[..], reader, &mut *state, &mut *answer),
     }
 }

@@ -1,7 +1,7 @@
 // Conditional reads.
 ghost use mathlib.Core.Path.{_≡_};
 ghost use lib.Dec.{eqb};
-ghost use Prim.Native.Nat.{_+_, _≤_};
+ghost use Prim.Native.Nat.{_+_, _<_, _≤_, _^_};
 ghost use mathlib.Core.List.{[], _∷_};
 ghost use mathlib.Core.Bool.{false};
 ghost use lib.ListN.{getD};
@@ -9,11 +9,11 @@ ghost use Rattle.word.specs.ByteSet.{member};
 ghost use Rattle.export.specs.State.{stateWords};
 ghost use Rattle.export.specs.Answer.{byteWords};
 ghost use Rattle.export.specs.Calls.{readBy, setIn};
-ghost use Rattle.export.specs.Code.Here.{wordsPast};
+ghost use Rattle.export.specs.Code.Here.{wordsAt};
 use crate::here::Here;
 use crate::here::answer_none;
 use crate::here::found_here;
-use crate::here::put_past;
+use crate::here::put_at;
 use crate::reply::of_read;
 use crate::reply::put;
 use crate::reply::refused;
@@ -103,14 +103,14 @@ fn read_value_any(
 
 // Takes the byte under the cursor, uncounted.
 fn take_here(b: u8, reader: u8, state: &mut [u64; 8], answer: &mut [u64; 4], past: u64) -> u32
-    requires { ⌜ (reader ≤ 2) × ((getD (now state) 3 0 + getD (now state) 4 0 + getD (now state) 5 0 ≤ getD (now state) 2 0) × (past ≡ getD (now state) 2 0 + 1)) ⌝ }
+    requires { ⌜ (reader ≤ 2) × ((getD (now state) 3 0 + getD (now state) 4 0 + getD (now state) 5 0 ≤ getD (now state) 2 0) × (getD (now state) 2 0 + 1 < 2 ^ 64)) ⌝ }
     ensures number { λ r. ⌜ r ≡ 0 ⌝ }
-    ensures moved { λ _. ⌜ now (state .exit) ≡ wordsPast (now (state .entry)) reader false ⌝ }
+    ensures moved { λ _. ⌜ now (state .exit) ≡ wordsAt (now (state .entry)) reader false past ⌝ }
     ensures written { λ _. ⌜ now (answer .exit) ≡ (1 ∷ b ∷ 1 ∷ 0 ∷ []) ⌝ }
 {
     let byte = wide(b);
     *answer = [1, byte, 1, 0];
-    put_past(&mut *state, reader, false, past);
+    put_at(&mut *state, reader, false, past);
     0
 }
 
@@ -140,6 +140,7 @@ pub extern "C" fn pawhetino_read_if(
             take_here(b, reader, &mut *state, &mut *answer, past)
         }
         Here::End => answer_none(&mut *state, &mut *answer),
+        Here::Separator => read_any(&s[..], reader, &mut *state, &mut *answer, set),
         Here::Other => read_any(&s[..], reader, &mut *state, &mut *answer, set),
     }
 }
@@ -170,6 +171,7 @@ pub extern "C" fn pawhetino_read_if_value_cased(
             take_here(b, reader, &mut *state, &mut *answer, past)
         }
         Here::End => answer_none(&mut *state, &mut *answer),
+        Here::Separator => read_value_any(&s[..], reader, &mut *state, &mut *answer, value),
         Here::Other => read_value_any(&s[..], reader, &mut *state, &mut *answer, value),
     }
 }

@@ -104,6 +104,7 @@ pub extern "C" fn pawhetino_skip_zeros(
             answer_no_zeros(&mut *state, &mut *answer)
         }
         Here::End => answer_no_zeros(&mut *state, &mut *answer),
+        Here::Separator => skip_any(&s[..], reader, &mut *state, &mut *answer),
         Here::Other => skip_any(&s[..], reader, &mut *state, &mut *answer),
     }
 }

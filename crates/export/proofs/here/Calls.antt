@@ -23,8 +23,8 @@ use Rattle.reader.specs.ZeroSkip.{isZero, skipRefusal, zeroReadOf, skipZerosOf}
 use Rattle.export.specs.State.{stateIn, stateWords, readerOn}
 use Rattle.export.specs.Answer.{byteWords, zerosWords}
 use Rattle.export.specs.Calls.{peekedBy, takenBy, readBy, skippedBy}
-use Rattle.export.specs.Code.Here.{ownFlags, wordsPast}
-use Rattle.export.proofs.here.CountedReaders.{counted-reader, named-on, own-flags, past-words}
+use Rattle.export.specs.Code.Here.{ownFlags, wordsAt}
+use Rattle.export.proofs.here.CountedReaders.{counted-reader, named-on, own-flags, at-words}
 use Rattle.export.proofs.here.Sight.{Sight}
 
 -- a call that answers no byte is not made again
@@ -86,12 +86,12 @@ module _ (n : ℕ) (w s : List ℕ) (b : ℕ) (here : Sight n w s (some b)) wher
 
   -- the words that a take writes
   pub next-words : (old : List ℕ) (up : Bool) → up ≡ (hasAnyFlag (ownFlags (getD w 0 0 / 2 ^ n)) && isDigit b (mantissaRadix (stateIn w .format))) → getD w 0 0 < 2 ^ 64
-      → (0 ≡ takenBy n w s .refusal) × ((wordsPast w n up ≡ stateWords w (takenBy n w s .state)) × ((1 ∷ b ∷ 1 ∷ 0 ∷ []) ≡ byteWords old (takenBy n w s)))
+      → (0 ≡ takenBy n w s .refusal) × ((wordsAt w n up (getD w 2 0 + 1) ≡ stateWords w (takenBy n w s .state)) × ((1 ∷ b ∷ 1 ∷ 0 ∷ []) ≡ byteWords old (takenBy n w s)))
   next-words old up known small =
       let flagged : hasAnyFlag (ownFlags (getD w 0 0 / 2 ^ n)) ≡ hasAnyFlag (flagsOf (stateIn w .format) own) =
       ap hasAnyFlag (own-flags (stateIn w .format) n (here .low) small ∙ sym (counted-reader n (here .low) .flags (stateIn w .format))) in
       let same : up ≡ counted = known ∙ rw flagged in
-      rw (taken-byte, same) (refl, (past-words n (here .low) w counted, refl))
+      rw (taken-byte, same) (refl, (at-words n (here .low) w counted (getD w 2 0 + 1), refl))
 
   -- a read of a byte that is wanted, and of one that is not
   pub read-taken : (wanted : ℕ → Bool) → wanted b ≡ true

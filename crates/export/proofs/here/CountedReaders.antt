@@ -17,10 +17,10 @@ use Rattle.reader.specs.declared.state.Reader.{Reader}
 use Rattle.reader.specs.declared.state.Reader.the-variants.{Integer, Fraction, Exponent}
 use Rattle.reader.specs.declared.state.State.{State}
 use Rattle.reader.specs.Reading.{flagsAt, flagsOf}
-use Rattle.reader.specs.State.{readerNamed, isCounted, movedTo, countedBy}
+use Rattle.reader.specs.State.{readerNamed, isCounted, countOf, movedTo, countedBy}
 use Rattle.reader.specs.Code.TakeSums.{withCount}
 use Rattle.export.specs.State.{stateIn, stateWords, isEdition, readerOn}
-use Rattle.export.specs.Code.Here.{ownFlags, wordsPast}
+use Rattle.export.specs.Code.Here.{ownFlags, wordsAt}
 
 pub record CountedReader (n : ℕ) : Type 0 where
   pub reader : Reader
@@ -52,18 +52,26 @@ pub own-flags : (f : Format) (n : ℕ) → n ≤ 2 → f .lo < 2 ^ 64 → ownFla
 own-flags f n low small =
     rw (bit-shifted f n 32 small (omega arith), bit-shifted f n 35 small (omega arith), bit-shifted f n 38 small (omega arith), bit-shifted f n 41 small (omega arith)) refl
 
--- the words one byte on
-pub past-words : (n : ℕ) (low : n ≤ 2) (w : List ℕ) (up : Bool)
-    → wordsPast w n up
-    ≡ stateWords w (cond up (countedBy (movedTo (stateIn w) (getD w 2 0 + 1)) (counted-reader n low .reader)) (movedTo (stateIn w) (getD w 2 0 + 1)))
+-- the words at a place, where a byte is counted or not
+pub at-words : (n : ℕ) (low : n ≤ 2) (w : List ℕ) (up : Bool) (place : ℕ)
+    → wordsAt w n up place
+    ≡ stateWords w (cond up (countedBy (movedTo (stateIn w) place) (counted-reader n low .reader)) (movedTo (stateIn w) place))
 unfolding countedBy movedTo counted-reader
-past-words zero low w true = refl
-past-words zero low w false = refl
-past-words (suc zero) low w true = refl
-past-words (suc zero) low w false = refl
-past-words (suc (suc zero)) low w true = refl
-past-words (suc (suc zero)) low w false = refl
-past-words (suc (suc (suc n))) low w up = absurd (omega (arith, low))
+at-words zero low w true place = refl
+at-words zero low w false place = refl
+at-words (suc zero) low w true place = refl
+at-words (suc zero) low w false place = refl
+at-words (suc (suc zero)) low w true place = refl
+at-words (suc (suc zero)) low w false place = refl
+at-words (suc (suc (suc n))) low w up place = absurd (omega (arith, low))
+
+-- the word of the reader's own count
+pub own-count-word : (n : ℕ) (low : n ≤ 2) (w : List ℕ) → countOf (stateIn w) (counted-reader n low .reader) ≡ getD w (3 + n) 0
+unfolding countOf counted-reader
+own-count-word zero low w = refl
+own-count-word (suc zero) low w = refl
+own-count-word (suc (suc zero)) low w = refl
+own-count-word (suc (suc (suc n))) low w = absurd (omega (arith, low))
 
 -- the words of a state whose counts were 0, at a place with a count
 pub end-words : (n : ℕ) (low : n ≤ 2) (w : List ℕ) (st : State) (at count : ℕ)

@@ -22,7 +22,7 @@ use Rattle.reader.proofs.passing.Places.{no-separator, byte-here, no-byte}
 use Rattle.reader.proofs.passing.Landings.{stays-on-other, stays-at-end}
 use Rattle.reader.proofs.state.Refusals.{peek-admitted}
 use Rattle.export.specs.declared.here.Here.{Here}
-use Rattle.export.specs.declared.here.Here.the-variants.{Byte, End, Other}
+use Rattle.export.specs.declared.here.Here.the-variants.{Byte, End, Separator, Other}
 use Rattle.export.specs.State.{stateIn, isEdition}
 use Rattle.export.specs.Code.Here.{isServed, isClear, hereOf}
 
@@ -66,7 +66,7 @@ no-zero-one : _≡_ {A = ℕ} 0 1 → ⊥
 no-zero-one e = omega arith
 
 -- which tests hold where a byte was found, and where the end was
-byte-tests : (held past end other : Bool) (b c : ℕ) → cond held (cond past Other (cond end End (cond other Other (Byte c)))) Other ≡ Byte b
+byte-tests : (held past end other : Bool) (b c : ℕ) → cond held (cond past Other (cond end End (cond other Separator (Byte c)))) Other ≡ Byte b
     → (held ≡ true) × (past ≡ false) × (end ≡ false) × (other ≡ false) × (c ≡ b)
 byte-tests true false false false b c e = (refl, refl, refl, refl, cc)
 byte-tests true false false true b c e = absurd (no-zero-one cc)
@@ -74,13 +74,30 @@ byte-tests true false true other b c e = absurd (no-zero-one cc)
 byte-tests true true end other b c e = absurd (no-zero-one cc)
 byte-tests false past end other b c e = absurd (no-zero-one cc)
 
-end-tests : (held past end other : Bool) (c : ℕ) → cond held (cond past Other (cond end End (cond other Other (Byte c)))) Other ≡ End
+end-tests : (held past end other : Bool) (c : ℕ) → cond held (cond past Other (cond end End (cond other Separator (Byte c)))) Other ≡ End
     → (held ≡ true) × (past ≡ false) × (end ≡ true)
 end-tests true false true other c e = (refl, refl, refl)
 end-tests true false false true c e = absurd (no-zero-one cc)
 end-tests true false false false c e = absurd (no-zero-one cc)
 end-tests true true end other c e = absurd (no-zero-one cc)
 end-tests false past end other c e = absurd (no-zero-one cc)
+
+separator-tests : (held past end other : Bool) (c : ℕ) → cond held (cond past Other (cond end End (cond other Separator (Byte c)))) Other ≡ Separator
+    → (held ≡ true) × (past ≡ false) × (end ≡ false) × (other ≡ true)
+separator-tests true false false true c e = (refl, refl, refl, refl)
+separator-tests true false false false c e = absurd (no-zero-one cc)
+separator-tests true false true other c e = absurd (no-zero-one cc)
+separator-tests true true end other c e = absurd (no-zero-one cc)
+separator-tests false past end other c e = absurd (no-zero-one cc)
+
+-- What is known of a reader that counts where the word's separator is under its cursor.
+pub record OnSeparator (n : ℕ) (w s : List ℕ) : Type 0 where
+  pub low : n ≤ 2
+  pub edition : isEdition (getD w 7 0) ≡ true
+  pub alone : isConsecutiveAlone (flagsAt (stateIn w .format) n) ≡ false
+  pub fit : countSum (stateIn w) ≤ getD w 2 0
+  pub inside : getD w 2 0 < length s
+  pub equal : getD s (getD w 2 0) 0 ≡ digitSeparator (stateIn w .format)
 
 module _ (n : ℕ) (w s : List ℕ) (here : Here) (found : here ≡ hereOf n w s) where
   abbrev f : Format
@@ -169,4 +186,23 @@ module _ (n : ℕ) (w s : List ℕ) (here : Here) (found : here ≡ hereOf n w s
           fit = fits (end-told .0);
           within = omega (arith, at-end);
           peeks = peeks-end;
+        }
+
+  module _ (is : here ≡ Separator) where
+    on-separator-told : (held ≡ true) × (past ≡ false) × (ended ≡ false) × (separates ≡ true)
+    unfolding hereOf
+    on-separator-told = separator-tests held past ended separates byte (sym found ∙ is)
+
+    pub on-separator : OnSeparator n w s
+    on-separator =
+        let told = on-separator-told in
+        let within = ltb-false (length s) (getD w 2 0) (told .1) in
+        let more = eqb-false (length s) (getD w 2 0) (told .2) in
+        record {
+          low = leb-true n 2 (served (told .0) .0);
+          edition = served (told .0) .1;
+          alone = not-alone (told .0);
+          fit = fits (told .0);
+          inside = omega (arith, within, more);
+          equal = eqb-true _ _ (told .3);
         }

@@ -9,7 +9,7 @@ use borrow.Author.Tests.{le-leb, lt-leb, ltb-true, ltb-false, lt-ltb, le-ltb, eq
 use Rattle.word.specs.Word.{digitSeparator}
 use Rattle.reader.specs.declared.rule.Flags.{Flags}
 use Rattle.reader.specs.Reading.{flagsAt, isConsecutiveAlone}
-use Rattle.export.specs.declared.here.Here.the-variants.{Byte, End, Other}
+use Rattle.export.specs.declared.here.Here.the-variants.{Byte, End, Separator, Other}
 use Rattle.export.specs.State.{stateIn, isEdition}
 use Rattle.export.specs.Code.Here.{ownFlags, isServed, isClear, underCursor, hereOf}
 use Rattle.export.proofs.here.CountedReaders.{own-flags}
@@ -71,7 +71,7 @@ module _ (n : ℕ) (w s : List ℕ) where
         here-end e = rw (by-place, le-ltb (length s) (getD w 2 0) within, eq-eqb (length s) (getD w 2 0) e)
 
         module _ (more : length s ≡ getD w 2 0 → ⊥) where
-          pub here-separator : getD s (getD w 2 0) 0 ≡ digitSeparator (stateIn w .format) → Other ≡ hereOf n w s
+          pub here-separator : getD s (getD w 2 0) 0 ≡ digitSeparator (stateIn w .format) → Separator ≡ hereOf n w s
           here-separator e = rw (by-place, le-ltb (length s) (getD w 2 0) within, ne-eqb (length s) (getD w 2 0) more, eq-eqb _ _ e)
 
           pub here-byte : (getD s (getD w 2 0) 0 ≡ digitSeparator (stateIn w .format) → ⊥) → Byte (getD s (getD w 2 0) 0) ≡ hereOf n w s

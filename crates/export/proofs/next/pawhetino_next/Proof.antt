@@ -1,9 +1,10 @@
--- `export::next::pawhetino_next` meets its contract: a byte that is no separator is taken by numbers, at the end nothing is, anything else
-use mathlib.Core.Path.{refl}
+-- `export::next::pawhetino_next` meets its contract: a byte that is no separator, and a digit behind one that is passed, are taken by numbers,
+use mathlib.Core.Path.{_∙_, refl, sym}
 use native.Mathlib.Omega.{arith}
-use Rattle.export.proofs.here.Sight.{byte-inside, byte-sight, end-sight}
+use Rattle.export.proofs.here.Sight.{byte-inside, byte-sight, end-sight, on-separator}
 use Rattle.export.proofs.here.Calls.{next-words, taken-end}
--- is left to the reader. Assumes nothing.
+use Rattle.export.proofs.over.Steps.{next-over-words}
+-- at the end nothing is, anything else is left to the reader. Assumes nothing.
 use borrow.Author.Needs.{needs}
 use Rattle.export.proofs.next.pawhetino_next.Statement.{statement}
 use Rattle.export.proofs.next.pawhetino_next.Tie as tie
@@ -53,11 +54,12 @@ add-past c =
 wide-requires : tie.Need-wide-requires
 wide-requires c κs = search needs
 
-put-past-requires : tie.Need-put-past-requires
-put-past-requires c κs =
+put-at-requires : tie.Need-put-at-requires
+put-at-requires c κs =
     let a = c .before .before .before .before .before .before .before .before .before .before .before .before .before .before .before .before .before .args in
     let here = byte-sight (a .reader) (a .state .now) (a .s .now) _ (c .before .before .before .before .before .before .before .before .before .before .before .before .before .found-here .ensures) _ (c .before .before .before .before .before .before .before .before .before .before .before .here .given .1) in
-    (here .low, (here .fit, refl))
+    let inside = byte-inside (a .reader) (a .state .now) (a .s .now) _ (c .before .before .before .before .before .before .before .before .before .before .before .before .before .found-here .ensures) _ (c .before .before .before .before .before .before .before .before .before .before .before .here .given .1) in
+    (here .low, (here .fit, omega (arith, inside)))
 
 enum-told : tie.Need-enum-told
 enum-told c = search needs
@@ -68,26 +70,50 @@ answer-none-requires c κs = search needs
 enum-told-2 : tie.Need-enum-told-2
 enum-told-2 c = search needs
 
-next-any-requires-2 : tie.Need-next-any-requires-2
-next-any-requires-2 c κs = search needs
+over-here-requires : tie.Need-over-here-requires
+over-here-requires c κs =
+    let a = c .before .before .before .before .before .before .before .before .args in
+    let here = on-separator (a .reader) (a .state .now) (a .s .now) _ (c .before .before .before .before .found-here .ensures) (c .before .before .enum-told2 .given .1) in
+    (here .low, (here .inside, here .fit))
 
 returns-2 : tie.Need-returns-2
 returns-2 c =
-    let a = c .before .before .before .before .before .before .before .before .before .before .before .before .before .before .before .before .before .before .args in
-    let here = byte-sight (a .reader) (a .state .now) (a .s .now) _ (c .before .before .before .before .before .before .before .before .before .before .before .before .before .before .found-here .ensures) _ (c .before .before .before .before .before .before .before .before .before .before .before .before .here .given .1) in
-    let own = c .before .before .before .before .before .before .before .own-bits .ensures in
-    rw (c .put-past .ensures, c .before .before .before .wide .ensures)
-    (next-words (a .reader) (a .state .now) (a .s .now) _ here (a .answer .now) _
-    (rw (c .before .before .before .before .char-is-digit-by-table .ensures, c .before .before .before .before .before .before .has-any .ensures, own .0, c .before .before .before .before .before .radix-of .ensures)) (own .1))
+    let a = c .before .before .before .before .before .before .before .before .before .before .args in
+    let here = on-separator (a .reader) (a .state .now) (a .s .now) _ (c .before .before .before .before .before .before .found-here .ensures) (c .before .before .before .before .enum-told2 .given .1) in
+    let told = c .before .over-here .ensures in
+    rw (told .1 .0, told .1 .1, c .if2 .taken) (next-over-words (a .reader) (a .state .now) (a .s .now) (sym (told .0) ∙ c .if2 .taken) here (a .answer .now))
+
+next-any-requires-2 : tie.Need-next-any-requires-2
+next-any-requires-2 c κs = search needs
+
+enum-told-3 : tie.Need-enum-told-3
+enum-told-3 c = search needs
+
+next-any-requires-3 : tie.Need-next-any-requires-3
+next-any-requires-3 c κs = search needs
 
 returns-3 : tie.Need-returns-3
 returns-3 c =
+    let a = c .before .before .before .before .before .before .before .before .before .before .before .before .before .before .before .before .before .before .args in
+    let here = byte-sight (a .reader) (a .state .now) (a .s .now) _ (c .before .before .before .before .before .before .before .before .before .before .before .before .before .before .found-here .ensures) _ (c .before .before .before .before .before .before .before .before .before .before .before .before .here .given .1) in
+    let own = c .before .before .before .before .before .before .before .own-bits .ensures in
+    rw (c .put-at .ensures, c .before .before .before .wide .ensures)
+    (next-words (a .reader) (a .state .now) (a .s .now) _ here (a .answer .now) _
+    (rw (c .before .before .before .before .char-is-digit-by-table .ensures, c .before .before .before .before .before .before .has-any .ensures, own .0, c .before .before .before .before .before .radix-of .ensures)) (own .1))
+
+returns-4 : tie.Need-returns-4
+returns-4 c =
     let a = c .before .before .before .before .before .before .before .before .before .args in
     let here = end-sight (a .reader) (a .state .now) (a .s .now) _ (c .before .before .before .before .before .found-here .ensures) (c .before .before .before .enum-told .given .1) in
     rw (taken-end (a .reader) (a .state .now) (a .s .now) here) (c .answer-none .ensures)
 
-returns-4 : tie.Need-returns-4
-returns-4 c = search needs
+returns-5 : tie.Need-returns-5
+returns-5 c =
+    let told = c .before .before .before .before .over-here .ensures in
+    rw (told .1 .0, told .1 .1, c .before .before .before .if2 .left) at (c .next-any2 .ensures)
+
+returns-6 : tie.Need-returns-6
+returns-6 c = search needs
 
 pub pawhetino-next-spec : {M : Type 1} → statement M
 pawhetino-next-spec =
@@ -106,11 +132,16 @@ pawhetino-next-spec =
     char-is-digit-by-table-requires
     add-past
     wide-requires
-    put-past-requires
+    put-at-requires
     enum-told
     answer-none-requires
     enum-told-2
-    next-any-requires-2
+    over-here-requires
     returns-2
+    next-any-requires-2
+    enum-told-3
+    next-any-requires-3
     returns-3
-    returns-4)
+    returns-4
+    returns-5
+    returns-6)

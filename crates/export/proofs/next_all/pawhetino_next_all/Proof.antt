@@ -113,7 +113,7 @@ returns-6 c =
     let separator = c .before .before .before .before .before .before .before .before .before .before .before .before .before .before .digit-separator in
     let internal = c .before .before .before .before .before .before .before .before .before .before .before .before .has-internal in
     let cell = c .before .before .before .before .before .before .before .before .before .grouped-cell .ensures .1 (not-false _ (c .before .before .before .before .before .before .before .if5 .left)) in
-    rw (c .before .before .before .before .own .ensures, c .before .before .before .own2 .ensures, c .before .before .own3 .ensures)
+    rw (c .before .before .before .before .before .before .own .ensures, c .before .before .before .before .before .own2 .ensures, c .before .before .before .before .own3 .ensures)
     (end-written (a .reader) w (a .s .now)
     (ltb-false 2 (a .reader) (left-fails other moved (left-fails (other || moved) edition t1)))
     (is-zero (getD w 7 0) (right-fails (other || moved) edition t1))
@@ -153,9 +153,9 @@ pawhetino-next-all-spec =
     next-all-any-requires-5
     returns-5
     sub-taken
-    element-copy-out-old
     own-requires
     own-requires-2
     own-requires-3
     element-copy-out-kept
+    element-copy-out-old
     returns-6)

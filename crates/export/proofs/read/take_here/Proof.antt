@@ -7,11 +7,11 @@ use Rattle.export.proofs.read.take_here.Tie as tie
 wide-requires : tie.Need-wide-requires
 wide-requires c κs = search needs
 
-put-past-requires : tie.Need-put-past-requires
-put-past-requires c κs = search needs
+put-at-requires : tie.Need-put-at-requires
+put-at-requires c κs = search needs
 
 returns : tie.Need-returns
-returns c = rw (c .put-past .ensures, c .before .before .before .wide .ensures) (refl, (refl, refl))
+returns c = rw (c .put-at .ensures, c .before .before .before .wide .ensures) (refl, (refl, refl))
 
 pub take-here-spec : {M : Type 1} → statement M
-take-here-spec = tie.close (tie.spec wide-requires put-past-requires returns)
+take-here-spec = tie.close (tie.spec wide-requires put-at-requires returns)

@@ -40,6 +40,12 @@ enum-told-2 c = search needs
 skip-any-requires-3 : tie.Need-skip-any-requires-3
 skip-any-requires-3 c κs = search needs
 
+enum-told-3 : tie.Need-enum-told-3
+enum-told-3 c = search needs
+
+skip-any-requires-4 : tie.Need-skip-any-requires-4
+skip-any-requires-4 c κs = search needs
+
 returns-3 : tie.Need-returns-3
 returns-3 c =
     let a = c .before .before .before .before .before .before .before .before .before .before .before .args in
@@ -54,6 +60,9 @@ returns-4 c =
 
 returns-5 : tie.Need-returns-5
 returns-5 c = search needs
+
+returns-6 : tie.Need-returns-6
+returns-6 c = search needs
 
 pub pawhetino-skip-zeros-spec : {M : Type 1} → statement M
 pawhetino-skip-zeros-spec =
@@ -70,6 +79,9 @@ pawhetino-skip-zeros-spec =
     answer-no-zeros-requires-2
     enum-told-2
     skip-any-requires-3
+    enum-told-3
+    skip-any-requires-4
     returns-3
     returns-4
-    returns-5)
+    returns-5
+    returns-6)

@@ -1,12 +1,12 @@
--- `export::here::put_past` meets its contract. Assumes nothing.
+-- `export::here::put_at` meets its contract. Assumes nothing.
 use mathlib.Core.Path.{_≡_, refl}
 use mathlib.Core.Bool.{and-false}
 use native.Mathlib.Omega.{arith}
 use lib.Dec.{eqb}
 use borrow.Author.Tests.{not-true, not-false, eq-eqb, ne-eqb}
 use borrow.Author.Needs.{needs}
-use Rattle.export.proofs.here.put_past.Statement.{statement}
-use Rattle.export.proofs.here.put_past.Tie as tie
+use Rattle.export.proofs.here.put_at.Statement.{statement}
+use Rattle.export.proofs.here.put_at.Tie as tie
 
 element-copy-out-lo : tie.Need-element-copy-out-lo
 element-copy-out-lo c = search needs
@@ -33,7 +33,7 @@ returns : tie.Need-returns
 returns c =
     let k = c .before .before .before .before .before .before .before .before .before in
     let a = k .args in
-    rw (k .pre .1 .1, not-true (a .counted) (c .before .if1 .taken), and-false (eqb (a .reader) 0), and-false (eqb (a .reader) 1), and-false (eqb (a .reader) 2)) refl
+    rw (not-true (a .counted) (c .before .if1 .taken), and-false (eqb (a .reader) 0), and-false (eqb (a .reader) 1), and-false (eqb (a .reader) 2)) refl
 
 add-one : tie.Need-add-one
 add-one c = search needs
@@ -41,7 +41,7 @@ add-one c = search needs
 returns-2 : tie.Need-returns-2
 returns-2 c =
     let k = c .before .before .before .before .before .before .before .before .before .before in
-    rw (k .pre .1 .1, not-false (k .args .counted) (c .before .before .if1 .left), c .before .if2 .taken) refl
+    rw (not-false (k .args .counted) (c .before .before .if1 .left), c .before .if2 .taken) refl
 
 add-one-2 : tie.Need-add-one-2
 add-one-2 c = search needs
@@ -49,7 +49,7 @@ add-one-2 c = search needs
 returns-3 : tie.Need-returns-3
 returns-3 c =
     let k = c .before .before .before .before .before .before .before .before .before .before .before in
-    rw (k .pre .1 .1, not-false (k .args .counted) (c .before .before .before .if1 .left), c .before .if3 .taken) refl
+    rw (not-false (k .args .counted) (c .before .before .before .if1 .left), c .before .if3 .taken) refl
 
 add-one-3 : tie.Need-add-one-3
 add-one-3 c = search needs
@@ -58,10 +58,10 @@ returns-4 : tie.Need-returns-4
 returns-4 c =
     let k = c .before .before .before .before .before .before .before .before .before .before .before in
     let last : k .args .reader ≡ 2 = omega (arith, k .pre .0, c .before .if3 .left, c .before .before .if2 .left) in
-    rw (k .pre .1 .1, not-false (k .args .counted) (c .before .before .before .if1 .left), last) refl
+    rw (not-false (k .args .counted) (c .before .before .before .if1 .left), last) refl
 
-pub put-past-spec : {M : Type 1} → statement M
-put-past-spec =
+pub put-at-spec : {M : Type 1} → statement M
+put-at-spec =
     tie.close
     (tie.spec
     element-copy-out-lo

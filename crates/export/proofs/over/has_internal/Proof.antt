@@ -1,4 +1,4 @@
--- `export::next_all::has_internal` meets its contract: the flag stands in the lower half. Assumes nothing.
+-- `export::over::has_internal` meets its contract: the flag stands in the lower half. Assumes nothing.
 use mathlib.Core.Path.{_∙_, ap}
 use Prim.Native.Nat.{ℕ, _+_}
 use native.Mathlib.Omega.{arith}
@@ -7,8 +7,8 @@ use Rattle.word.specs.Bits.{bit}
 use Rattle.word.specs.Word.{field, flag}
 use Rattle.word.proofs.format_flags.Halves.{low-half}
 use borrow.Author.Needs.{needs}
-use Rattle.export.proofs.next_all.has_internal.Statement.{statement}
-use Rattle.export.proofs.next_all.has_internal.Tie as tie
+use Rattle.export.proofs.over.has_internal.Statement.{statement}
+use Rattle.export.proofs.over.has_internal.Tie as tie
 
 add-position : tie.Need-add-position
 add-position c = search needs

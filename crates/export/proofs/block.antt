@@ -1,0 +1,2 @@
+-- Laws of the block take (src/block.rt).
+pub mod PartPlaces

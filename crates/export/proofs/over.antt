@@ -1,0 +1,2 @@
+-- Laws of a peek and a take at a separator right before a digit (src/over.rt).
+pub mod Steps
