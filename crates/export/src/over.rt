@@ -50,7 +50,6 @@ fn is_over(s: &[u8], reader: u8, state: &[u64; 8]) -> bool
 }
 
 // Passes the separator under the cursor and sees the digit behind it, which a take takes: whether it is so; if not, nothing is written.
-// (A peek and a take both call it, so that it is not compiled into either.)
 pub(crate) fn over_here(
     s: &[u8],
     reader: u8,
