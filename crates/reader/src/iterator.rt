@@ -11,6 +11,7 @@ ghost use Rattle.reader.specs.Calls.{readIfOf};
 ghost use Rattle.reader.specs.ZeroSkip.{isZero, skipRefusal, skipZerosOf};
 use crate::passing::Syntax;
 use crate::passing::landing;
+use crate::passing::past_taken;
 use crate::passing::syntax_for;
 use crate::skip::Looked;
 use crate::skip::look;
@@ -182,6 +183,36 @@ fn take_zeros(s: &[u8], state: State, syntax: Syntax, reader: Reader) -> SkipAns
     skip_answered(Skipped::Zeros(zeros), zeros, passed, end)
 }
 
+// The same where `0` is itself the separator (words that the check refuses): every zero is then judged by the rule. With the consecutive
+// flag each zero of a refused run would be judged by the whole run, so once the reader has counted the run is read at once.
+fn take_separator_zeros(s: &[u8], state: State, syntax: Syntax, reader: Reader) -> SkipAnswer
+    requires { ⌜ (skipRefusal (syntax .flags) (now s) state reader ≡ 0) × (syntax .separator ≡ 48) ⌝ }
+    ensures { λ r. ⌜ skipOutcomeOf r ≡ skipZerosOf (readingWith syntax) (now (s .entry)) state reader ⌝ }
+{
+    let counted = state.count(reader);
+    let mut at = state.cursor;
+    let mut count = counted;
+    let mut taken: usize = 0;
+    let mut passed: usize = 0;
+    let zeros = loop {
+        let place = landing(s, syntax, count == 0, at);
+        let over = place - at;
+        at = place;
+        passed += over;
+        if !is_zero_at(s, place) {
+            break taken;
+        }
+        let refused = (over == 0) & (count != 0);
+        at = past_taken(s, syntax, refused, place);
+        let more = at - place;
+        count += more;
+        taken += more;
+    };
+    let stopped = moved(state, at);
+    let end = with_count(stopped, reader, count);
+    skip_answered(Skipped::Zeros(zeros), zeros, passed, end)
+}
+
 // A zero skip given the reader's syntax.
 fn skip_zeros_in(s: &[u8], state: State, syntax: Syntax, reader: Reader) -> SkipAnswer
     ensures { λ r. ⌜ skipOutcomeOf r ≡ skipZerosOf (readingWith syntax) (now (s .entry)) state reader ⌝ }
@@ -189,7 +220,12 @@ fn skip_zeros_in(s: &[u8], state: State, syntax: Syntax, reader: Reader) -> Skip
     let flags = syntax.flags;
     let admitted = admit_skip(s, state, flags, reader);
     match admitted {
-        Admission::Admitted => take_zeros(s, state, syntax, reader),
+        Admission::Admitted => {
+            if syntax.separator == 48 {
+                return take_separator_zeros(s, state, syntax, reader);
+            }
+            take_zeros(s, state, syntax, reader)
+        }
         Admission::Refused(refusal) => skip_answered(Skipped::Refused(refusal), 0, 0, state),
     }
 }

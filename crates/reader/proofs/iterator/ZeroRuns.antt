@@ -1,11 +1,9 @@
 -- Where `0` is the separator and is refused to a reader that has counted, so is the rest of its run, and the reads of a zero skip come to
--- the run's end one by one. For a loop that goes there at once; `take_zeros` does not yet. Assumes nothing.
+-- the run's end one by one, so the loop may go there at once. For the proof of `take_separator_zeros`. Assumes nothing.
 use mathlib.Core.Path.{_≡_, _∙_, refl, sym}
 use mathlib.Core.Bool.{Bool, true, false, cond, not, _&&_}
 use mathlib.Core.List.{List}
-use mathlib.Core.Logic.{⊎-elim}
 use Prim.Native.Nat.{ℕ, zero, suc, _+_, _-_, _<_}
-use native.Mathlib.Nat.{eq-zero-or-pos}
 use native.Mathlib.Numerals.{add-one}
 use native.Mathlib.Omega.{arith}
 use borrow.Author.Tests.{eq-eqb, ne-eqb, eqb-true, lt-ltb}
@@ -17,7 +15,7 @@ use Rattle.reader.specs.declared.state.State.{State}
 use Rattle.reader.specs.Place.{separatorRun}
 use Rattle.reader.specs.Reading.{Reading, mayPass, passedAt}
 use Rattle.reader.specs.ZeroSkip.{skipRefusal, isZero}
-use Rattle.reader.proofs.Booleans.{and-left, and-right, contradicts}
+use Rattle.reader.proofs.Booleans.{and-left, and-right}
 use Rattle.reader.proofs.passing.Places.{is-separator}
 use Rattle.reader.proofs.passing.Passed.{separator-is}
 use Rattle.reader.proofs.passing.RefusedRuns.{inside, begins, positive, refused-first, refused-next, refused-stays}
@@ -64,28 +62,27 @@ module _
     run-read at k count taken e above refused here =
         read-rest k at count taken e above (refused-first m s consecutive false at k e (rw (later count above) at refused)) here
 
--- Where the reads come to behind a zero that is read: where that is the separator itself, and refused, the rest of its run is read too.
+-- Where the reads come to behind a zero that is read: where it is refused to a reader that has counted, the rest of its run is read too.
 module _
     (m : Reading)
     (s : List ℕ)
     (r : Reader)
     (st : State)
     (clear : skipRefusal (m .flags) s st r ≡ 0)
+    (is-zero : m .separator ≡ 48)
     (at count taken passed place : ℕ)
     (here : Skipping m s r st at count taken passed)
     (lands : place ≡ at + passedAt m s (eqb count 0) at)
     (zero-read : zeroAt s place ≡ true)
   where
     abbrev refusedZero : Bool
-    refusedZero = eqb (m .separator) 48 && eqb (place - at) 0 && not (eqb count 0)
+    refusedZero = eqb (place - at) 0 && not (eqb count 0)
 
     all-read : refusedZero ≡ true → m .flags .consecutive ≡ true
         → Skipping m s r st (place + separatorRun (m .separator) (drop place s)) (count + separatorRun (m .separator) (drop place s)) (taken + separatorRun (m .separator) (drop place s)) (passed + (place - at))
     all-read t consecutive =
-        let both = and-left (eqb (m .separator) 48 && eqb (place - at) 0) (not (eqb count 0)) t in
-        let is-zero : m .separator ≡ 48 = eqb-true (m .separator) 48 (and-left (eqb (m .separator) 48) (eqb (place - at) 0) both) in
-        let none : place - at ≡ 0 = eqb-true (place - at) 0 (and-right (eqb (m .separator) 48) (eqb (place - at) 0) both) in
-        let above = positive count (and-right (eqb (m .separator) 48 && eqb (place - at) 0) (not (eqb count 0)) t) in
+        let none : place - at ≡ 0 = eqb-true (place - at) 0 (and-left (eqb (place - at) 0) (not (eqb count 0)) t) in
+        let above = positive count (and-right (eqb (place - at) 0) (not (eqb count 0)) t) in
         let stays : place ≡ at = omega (arith, none, lands) in
         let refused : passedAt m s (eqb count 0) at ≡ 0 = omega (arith, none, lands) in
         let nothing : passed + (place - at) ≡ passed = omega (arith, none) in

@@ -13,10 +13,15 @@ admit-skip-requires c κs = search needs
 enum-told : tie.Need-enum-told
 enum-told c = search needs
 
+take-separator-zeros-requires : tie.Need-take-separator-zeros-requires
+take-separator-zeros-requires c κs =
+    let t = c .before .before in
+    (sym (t .before .before .admit-skip .ensures) ∙ ap admissionNumber (t .enum-told .given .1), c .if1 .taken)
+
 take-zeros-requires : tie.Need-take-zeros-requires
 take-zeros-requires c κs =
-    let d = c .before .before in
-    sym (d .admit-skip .ensures) ∙ ap admissionNumber (c .enum-told .given .1)
+    let t = c .before .before in
+    sym (t .before .before .admit-skip .ensures) ∙ ap admissionNumber (t .enum-told .given .1)
 
 enum-known-admitted : tie.Need-enum-known-admitted
 enum-known-admitted c = search needs
@@ -28,8 +33,11 @@ returns : tie.Need-returns
 returns c = search needs
 
 returns-2 : tie.Need-returns-2
+returns-2 c = search needs
+
+returns-3 : tie.Need-returns-3
 unfolding readingWith
-returns-2 c =
+returns-3 c =
     let k = c .before .before in
     let d = k .before .before in
     let a = d .before .before .before .args in
@@ -43,8 +51,10 @@ skip-zeros-in-spec =
     (tie.spec
     admit-skip-requires
     enum-told
+    take-separator-zeros-requires
+    returns
     take-zeros-requires
     enum-known-admitted
     skip-answered-requires
-    returns
-    returns-2)
+    returns-2
+    returns-3)
