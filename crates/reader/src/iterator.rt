@@ -1,6 +1,6 @@
 // Conditional reads and the zero skip. After lexical-util's iterator.rs.
 ghost use mathlib.Core.Path.{_≡_};
-ghost use mathlib.Core.Bool.{_&&_};
+ghost use mathlib.Core.Bool.{false, _&&_};
 ghost use Prim.Native.Nat.{_+_, _≤_};
 ghost use lib.Dec.{eqb, ltb};
 ghost use lib.ListN.{length, getD};
@@ -151,18 +151,17 @@ fn is_zero_at(s: &[u8], place: usize) -> bool
 }
 
 // Reads zeros until a read fails, from a state that is not refused. The loop keeps numbers only, and makes the state at its end; most
-// turns stand on a zero that is no separator, so that test stands first.
+// turns stand on a zero, which is no separator, so that test stands first.
 fn take_zeros(s: &[u8], state: State, syntax: Syntax, reader: Reader) -> SkipAnswer
-    requires { ⌜ skipRefusal (syntax .flags) (now s) state reader ≡ 0 ⌝ }
+    requires { ⌜ (skipRefusal (syntax .flags) (now s) state reader ≡ 0) × (eqb (syntax .separator) 48 ≡ false) ⌝ }
     ensures { λ r. ⌜ skipOutcomeOf r ≡ skipZerosOf (readingWith syntax) (now (s .entry)) state reader ⌝ }
 {
-    let separator = syntax.separator;
     let mut at = state.cursor;
     let mut count = state.count(reader);
     let mut taken: usize = 0;
     let mut passed: usize = 0;
     let zeros = loop {
-        if (separator != 48) & is_zero_at(s, at) {
+        if is_zero_at(s, at) {
             at += 1;
             count += 1;
             taken += 1;

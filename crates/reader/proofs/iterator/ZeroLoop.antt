@@ -1,6 +1,6 @@
 -- The loop of a zero skip on plain numbers: how its numbers stand for the state of a list of reads of `0`. Assumes nothing.
 use mathlib.Core.Path.{_≡_, _∙_, refl, sym, ap}
-use mathlib.Core.Bool.{Bool, true, false, not, _&&_}
+use mathlib.Core.Bool.{Bool, true, false, _&&_}
 use mathlib.Core.List.{List}
 use mathlib.Core.Option.{some, none}
 use Prim.Native.Nat.{ℕ, _+_, _-_, _<_, _≤_}
@@ -42,18 +42,14 @@ pub record PlainZero (x : Syntax) (s : List ℕ) (at : ℕ) : Type 0 where
   pub zero : zeroAt s at ≡ true
   pub stays : (isFirst : Bool) → at ≡ landingOf x s isFirst at
 
-pub plain-zero : (x : Syntax) (s : List ℕ) (at : ℕ) (found : Bool) → found ≡ zeroAt s at → (not (eqb (x .separator) 48) && found) ≡ true → PlainZero x s at
-plain-zero x s at found e t = go (eqb (x .separator) 48) refl where
-  go : (u : Bool) → eqb (x .separator) 48 ≡ u → PlainZero x s at
-  go true p = absurd (contradicts (rw p at t))
-  go false p =
-      let zero : zeroAt s at ≡ true = sym e ∙ rw p at t in
-      let there = zero-there s at zero in
-      let b : getD s at 0 ≡ 48 = eqb-true (getD s at 0) 48 (there .1) in
-      record {
-        zero = zero;
-        stays = λ isFirst. stays-on-other x s isFirst at (there .0) (no-separator (x .separator) (getD s at 0) (λ q. eqb-false (x .separator) 48 p (sym q ∙ b)));
-      }
+pub plain-zero : (x : Syntax) (s : List ℕ) (at : ℕ) → eqb (x .separator) 48 ≡ false → zeroAt s at ≡ true → PlainZero x s at
+plain-zero x s at other zero =
+    let there = zero-there s at zero in
+    let b : getD s at 0 ≡ 48 = eqb-true (getD s at 0) 48 (there .1) in
+    record {
+      zero = zero;
+      stays = λ isFirst. stays-on-other x s isFirst at (there .0) (no-separator (x .separator) (getD s at 0) (λ q. eqb-false (x .separator) 48 other (sym q ∙ b)));
+    }
 
 module _ (m : Reading) (s : List ℕ) (r : Reader) (st : State) where
   -- The loop stands at a place with a count, and has taken and passed so many: these are the numbers of a list of reads from `st`.

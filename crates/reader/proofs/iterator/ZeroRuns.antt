@@ -7,14 +7,14 @@ use Prim.Native.Nat.{ℕ, zero, suc, _+_, _-_, _<_}
 use native.Mathlib.Numerals.{add-one}
 use native.Mathlib.Omega.{arith}
 use borrow.Author.Tests.{eq-eqb, ne-eqb, eqb-true, lt-ltb}
-use lib.Dec.{eqb, ltb}
+use lib.Dec.{eqb}
 use lib.ListN.{length, drop, getD}
 use lib.Seq.{drop-cons}
 use Rattle.reader.specs.declared.state.Reader.{Reader}
 use Rattle.reader.specs.declared.state.State.{State}
 use Rattle.reader.specs.Place.{separatorRun}
 use Rattle.reader.specs.Reading.{Reading, mayPass, passedAt}
-use Rattle.reader.specs.ZeroSkip.{skipRefusal, isZero}
+use Rattle.reader.specs.ZeroSkip.{skipRefusal}
 use Rattle.reader.proofs.Booleans.{and-left, and-right}
 use Rattle.reader.proofs.passing.Places.{is-separator}
 use Rattle.reader.proofs.passing.Passed.{separator-is}

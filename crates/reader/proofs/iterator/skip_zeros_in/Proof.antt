@@ -4,6 +4,7 @@ use Rattle.reader.specs.Reading.{readingWith}
 use Rattle.reader.specs.Answer.{admissionNumber}
 use Rattle.reader.proofs.iterator.Zeros.{skip-refused}
 use borrow.Author.Needs.{needs}
+use borrow.Author.Tests.{ne-eqb}
 use Rattle.reader.proofs.iterator.skip_zeros_in.Statement.{statement}
 use Rattle.reader.proofs.iterator.skip_zeros_in.Tie as tie
 
@@ -21,7 +22,7 @@ take-separator-zeros-requires c κs =
 take-zeros-requires : tie.Need-take-zeros-requires
 take-zeros-requires c κs =
     let t = c .before .before in
-    sym (t .before .before .admit-skip .ensures) ∙ ap admissionNumber (t .enum-told .given .1)
+    (sym (t .before .before .admit-skip .ensures) ∙ ap admissionNumber (t .enum-told .given .1), ne-eqb _ 48 (c .if1 .left))
 
 enum-known-admitted : tie.Need-enum-known-admitted
 enum-known-admitted c = search needs

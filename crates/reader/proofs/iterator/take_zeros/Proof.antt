@@ -14,11 +14,11 @@ use Rattle.reader.proofs.iterator.take_zeros.Statement.{statement}
 use Rattle.reader.proofs.iterator.take_zeros.Tie as tie
 
 abbrev Inv-loop : tie.InvT-loop
-Inv-loop s state syntax reader separator at₀ count₀ taken₀ passed₀ at count taken passed =
+Inv-loop s state syntax reader at₀ count₀ taken₀ passed₀ at count taken passed =
     Skipping (readingWith syntax) s reader state at count taken passed
 
 abbrev μ-loop : tie.MeasureT-loop
-μ-loop s state syntax reader separator at₀ count₀ taken₀ passed₀ at count taken passed = length s - at
+μ-loop s state syntax reader at₀ count₀ taken₀ passed₀ at count taken passed = length s - at
 
 count-requires : tie.Need-count-requires Inv-loop μ-loop
 count-requires c κs = search needs
@@ -28,14 +28,14 @@ unfolding readingWith
 loop-holds c =
     let b = c .before .before in
     let a = b .args in
-    rw (c .count .ensures) (skipping-starts (readingWith (a .syntax)) (a .s .now) (a .reader) (a .state) (b .pre))
+    rw (c .count .ensures) (skipping-starts (readingWith (a .syntax)) (a .s .now) (a .reader) (a .state) (b .pre .0))
 
 is-zero-at-requires : tie.Need-is-zero-at-requires Inv-loop μ-loop
 is-zero-at-requires c κs = search needs
 
 -- a turn on a zero that is no separator: there is room for one more
 plain : (c : tie.Then1 Inv-loop μ-loop) → PlainZero (c .before .before .before .before .before .args .syntax) (c .before .before .before .before .before .args .s .now) (c .before .before .loop .at)
-plain c = plain-zero _ _ _ (c .before .is-zero-at .result) (c .before .is-zero-at .ensures) (c .if1 .taken)
+plain c = plain-zero _ _ _ (c .before .before .before .before .before .pre .1) (sym (c .before .is-zero-at .ensures) ∙ c .if1 .taken)
 
 abbrev size : (c : tie.Then1 Inv-loop μ-loop) → ℕ
 size c = length (c .before .before .before .before .before .args .s .now)
@@ -64,7 +64,7 @@ loop-again c =
     let l = c .before .before in
     let b = l .before .before .before in
     let a = b .args in
-    skipping-by-one (readingWith (a .syntax)) (a .s .now) (a .reader) (a .state) (b .pre) (l .loop .at) (l .loop .count) (l .loop .taken) (l .loop .passed) (l .loop .inv)
+    skipping-by-one (readingWith (a .syntax)) (a .s .now) (a .reader) (a .state) (b .pre .0) (l .loop .at) (l .loop .count) (l .loop .taken) (l .loop .passed) (l .loop .inv)
     (plain c .stays (eqb (l .loop .count) 0)) (plain c .zero)
 
 place-at-requires : tie.Need-place-at-requires Inv-loop μ-loop
@@ -116,7 +116,7 @@ loop-again-2 c =
     let l = p .before .before .before in
     let b = l .before .before .before in
     let a = b .args in
-    skipping-on (readingWith (a .syntax)) (a .s .now) (a .reader) (a .state) (b .pre) (l .loop .at) (l .loop .count) (l .loop .taken) (l .loop .passed) (l .loop .inv)
+    skipping-on (readingWith (a .syntax)) (a .s .now) (a .reader) (a .state) (b .pre .0) (l .loop .at) (l .loop .count) (l .loop .taken) (l .loop .passed) (l .loop .inv)
     (p .place-at .result) (p .place-at .ensures .0) (zero-found c)
 
 moved-requires : tie.Need-moved-requires Inv-loop μ-loop
@@ -138,7 +138,7 @@ returns c =
     let b = l .before .before .before in
     let a = b .args in
     rw (c .skip-answered .ensures, c .before .with-count .ensures, c .before .before .moved .ensures)
-    (skipping-over (readingWith (a .syntax)) (a .s .now) (a .reader) (a .state) (b .pre) (l .loop .at) (l .loop .count) (l .loop .taken) (l .loop .passed) (l .loop .inv)
+    (skipping-over (readingWith (a .syntax)) (a .s .now) (a .reader) (a .state) (b .pre .0) (l .loop .at) (l .loop .count) (l .loop .taken) (l .loop .passed) (l .loop .inv)
     (p .place-at .result) (p .place-at .ensures .0) (sym (z .is-zero-at2 .ensures) ∙ not-true _ (t .if2 .taken)))
 
 pub take-zeros-spec : {M : Type 1} → statement M
