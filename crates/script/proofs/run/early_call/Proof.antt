@@ -23,13 +23,13 @@ same-length : tie.Need-same-length
 same-length c = search needs
 
 returns : tie.Need-returns
-returns c = λ buffer. rw (named (c .before .before .before .before .before .before .before .before .before .args .by) (c .before .before .before .before .before .before .before .reader-named .result) (c .before .before .before .before .before .before .before .reader-named .ensures) (c .before .before .before .before .before .who .given .0 .0) (c .before .before .before .before .before .who .given .1)) (c .before .before .stop .ensures buffer)
+returns c = λ buffer. rw (named _ _ (c .before .before .before .before .before .before .before .reader-named .ensures) _ (c .before .before .before .before .before .who .given .1)) (c .before .before .stop .ensures buffer)
 
 same-length-2 : tie.Need-same-length-2
 same-length-2 c = search needs
 
 returns-2 : tie.Need-returns-2
-returns-2 c = λ buffer. rw (unnamed (c .before .before .before .before .before .before .before .before .args .by) (c .before .before .before .before .before .before .reader-named .result) (c .before .before .before .before .before .before .reader-named .ensures) (c .before .before .before .before .enum-told .given .1)) (c .before .before .stop2 .ensures buffer)
+returns-2 c = λ buffer. rw (unnamed _ _ (c .before .before .before .before .before .before .reader-named .ensures) (c .before .before .before .before .enum-told .given .1)) (c .before .before .stop2 .ensures buffer)
 
 pub early-call-spec : {M : Type 1} → statement M
 early-call-spec =

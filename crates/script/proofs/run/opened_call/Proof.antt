@@ -23,13 +23,13 @@ same-length : tie.Need-same-length
 same-length c = search needs
 
 returns : tie.Need-returns
-returns c = rw (named (c .before .before .before .before .before .before .before .before .before .before .args .by) (c .before .before .before .before .before .before .before .reader-named .result) (c .before .before .before .before .before .before .before .reader-named .ensures) (c .before .before .before .before .before .who .given .0 .0) (c .before .before .before .before .before .who .given .1)) (c .before .before .call-line .ensures)
+returns c = rw (named _ _ (c .before .before .before .before .before .before .before .reader-named .ensures) _ (c .before .before .before .before .before .who .given .1)) (c .before .before .call-line .ensures)
 
 same-length-2 : tie.Need-same-length-2
 same-length-2 c = search needs
 
 returns-2 : tie.Need-returns-2
-returns-2 c = rw (unnamed (c .before .before .before .before .before .before .before .before .before .args .by) (c .before .before .before .before .before .before .reader-named .result) (c .before .before .before .before .before .before .reader-named .ensures) (c .before .before .before .before .enum-told .given .1)) (c .before .before .stop .ensures (c .before .before .before .before .before .before .before .before .before .args .text .now))
+returns-2 c = rw (unnamed _ _ (c .before .before .before .before .before .before .reader-named .ensures) (c .before .before .before .before .enum-told .given .1)) (c .before .before .stop .ensures (c .before .before .before .before .before .before .before .before .before .args .text .now))
 
 pub opened-call-spec : {M : Type 1} → statement M
 opened-call-spec =
