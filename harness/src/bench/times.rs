@@ -3,7 +3,7 @@
 use super::chart::bars::Bars;
 use super::sides::{Sides, NAMES};
 use super::table::{Row, Table, Unit};
-use super::timing::{agree, time_in_turn, Timing, ROUNDS};
+use super::timing::{agree, ratio_text, time_in_turn, Timing, ROUNDS};
 use super::Findings;
 
 /// The times of a row, in the order of the sides.
@@ -72,7 +72,7 @@ fn fields(timings: &Timings, row: &Row, unit: Unit) -> String {
     let [others @ .., rattle] = timings;
     let ratios = others
         .each_ref()
-        .map(|other| format!("{:.2}", rattle.ratio(other)));
+        .map(|other| ratio_text(rattle.ratio(other)));
     let fields = [times.join(" | "), ratios.join(" | ")].join(" | ");
     if unit == Unit::Call {
         return fields;

@@ -57,6 +57,16 @@ pub fn time_in_turn<const WAYS: usize>(
     timings
 }
 
+/// A ratio with two decimals, or a small one with as many as show two of its
+/// figures.
+pub fn ratio_text(ratio: f64) -> String {
+    let mut decimals = 2;
+    while decimals < 6 && ratio * 10f64.powi(decimals) < 9.5 {
+        decimals += 1;
+    }
+    format!("{ratio:.*}", decimals as usize)
+}
+
 pub fn agree(timings: &[Timing]) -> bool {
     timings
         .windows(2)

@@ -3,7 +3,7 @@
 
 use super::scale::Scale;
 use super::svg::{Anchor, Picture, CHARACTER, INK, PALE};
-use crate::bench::timing::{Span, ROUNDS};
+use crate::bench::timing::{ratio_text, Span, ROUNDS};
 
 /// The bars of one row of a table: how many times as long as the crate.
 pub struct Bars {
@@ -116,7 +116,7 @@ fn draw_bar(picture: &mut Picture, scale: &Scale, span: &Span, colour: &str, y: 
     for end in [least, most] {
         picture.line([end, middle - 3.0, end, middle + 3.0], INK, 1.0);
     }
-    let number = format!("{:.2}", span.median);
+    let number = ratio_text(span.median);
     let behind = most.max(base) + 6.0;
     picture.text([behind, middle + 4.5], Anchor::Start, &number);
 }
