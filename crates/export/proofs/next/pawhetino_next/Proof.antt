@@ -1,10 +1,10 @@
 -- `export::next::pawhetino_next` meets its contract: a byte that is no separator, and a digit behind one that is passed, are taken by numbers,
+-- at the end nothing is, anything else is left to the reader. Assumes nothing.
 use mathlib.Core.Path.{_∙_, refl, sym}
 use native.Mathlib.Omega.{arith}
 use Rattle.export.proofs.here.Sight.{byte-inside, byte-sight, end-sight, on-separator}
 use Rattle.export.proofs.here.Calls.{next-words, taken-end}
 use Rattle.export.proofs.over.Steps.{next-over-words}
--- at the end nothing is, anything else is left to the reader. Assumes nothing.
 use borrow.Author.Needs.{needs}
 use Rattle.export.proofs.next.pawhetino_next.Statement.{statement}
 use Rattle.export.proofs.next.pawhetino_next.Tie as tie

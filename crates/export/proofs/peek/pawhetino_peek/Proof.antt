@@ -1,9 +1,9 @@
 -- `export::peek::pawhetino_peek` meets its contract: a byte that is no separator, the end, and a digit behind a separator that is passed are
+-- seen by numbers, anything else is left to the reader. Assumes nothing.
 use mathlib.Core.Path.{_∙_, refl, sym}
 use Rattle.export.proofs.here.Sight.{byte-sight, end-sight, on-separator}
 use Rattle.export.proofs.here.Calls.{peeked-here}
 use Rattle.export.proofs.over.Steps.{peek-over-words}
--- seen by numbers, anything else is left to the reader. Assumes nothing.
 use borrow.Author.Needs.{needs}
 use Rattle.export.proofs.peek.pawhetino_peek.Statement.{statement}
 use Rattle.export.proofs.peek.pawhetino_peek.Tie as tie

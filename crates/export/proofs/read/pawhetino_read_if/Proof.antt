@@ -1,4 +1,5 @@
 -- `export::read::pawhetino_read_if` meets its contract: a byte that is no separator is read where it is, at the end nothing is, anything
+-- else is left to the reader. Assumes nothing.
 use mathlib.Core.Path.{refl, sym, _∙_}
 use native.Mathlib.Omega.{arith}
 use Rattle.export.proofs.here.Sight.{byte-inside, byte-sight, end-sight}
@@ -10,7 +11,6 @@ use mathlib.Core.Bool.{false}
 use borrow.Author.Tests.{not-true, not-false}
 use Rattle.word.specs.ByteSet.{member}
 use Rattle.export.specs.Calls.{setIn}
--- else is left to the reader. Assumes nothing.
 use borrow.Author.Needs.{needs}
 use Rattle.export.proofs.read.pawhetino_read_if.Statement.{statement}
 use Rattle.export.proofs.read.pawhetino_read_if.Tie as tie

@@ -1,4 +1,5 @@
 -- `export::read::pawhetino_read_if_value_cased` meets its contract: a byte that is no separator is read where it is, at the end nothing is, anything
+-- else is left to the reader. Assumes nothing.
 use mathlib.Core.Path.{refl, sym, _∙_}
 use native.Mathlib.Omega.{arith}
 use Rattle.export.proofs.here.Sight.{byte-inside, byte-sight, end-sight}
@@ -9,7 +10,6 @@ use lib.ListN.{getD}
 use mathlib.Core.Bool.{false}
 use lib.Dec.{eqb}
 use borrow.Author.Tests.{eq-eqb, ne-eqb}
--- else is left to the reader. Assumes nothing.
 use borrow.Author.Needs.{needs}
 use Rattle.export.proofs.read.pawhetino_read_if_value_cased.Statement.{statement}
 use Rattle.export.proofs.read.pawhetino_read_if_value_cased.Tie as tie

@@ -1,8 +1,8 @@
 -- `export::zeros::pawhetino_skip_zeros` meets its contract: where there is a byte that is neither a zero nor a separator, or the end, no zero
+-- is found, anything else is left to the reader. Assumes nothing.
 use borrow.Author.Tests.{ne-eqb}
 use Rattle.export.proofs.here.Sight.{byte-sight, end-sight}
 use Rattle.export.proofs.here.Calls.{skipped-other, skipped-end}
--- is found, anything else is left to the reader. Assumes nothing.
 use borrow.Author.Needs.{needs}
 use Rattle.export.proofs.zeros.pawhetino_skip_zeros.Statement.{statement}
 use Rattle.export.proofs.zeros.pawhetino_skip_zeros.Tie as tie
