@@ -1,6 +1,6 @@
 -- The words that are written where a grouped cell is taken by numbers are those of the call: for `pawhetino_next_all`. Assumes nothing.
 use mathlib.Core.Path.{_≡_, _∙_, refl, sym}
-use mathlib.Core.Bool.{Bool, true, false, cond, not, _||_}
+use mathlib.Core.Bool.{true, false, cond, not}
 use mathlib.Core.List.{List, [], _∷_}
 use mathlib.Core.Option.{some}
 use Prim.Native.Nat.{ℕ, _+_, _-_, _<_, _≤_}
@@ -21,15 +21,6 @@ use Rattle.export.specs.Answer.{byteWords}
 use Rattle.export.specs.Calls.{takenAllBy}
 use Rattle.export.specs.Code.GroupedCell.{Between, GroupedCell}
 use Rattle.export.proofs.here.CountedReaders.{counted-reader, named-on, end-words}
-
--- of two tests that fail together, each fails
-pub left-fails : (a b : Bool) → (a || b) ≡ false → a ≡ false
-left-fails false b e = refl
-left-fails true b e = e
-
-pub right-fails : (a b : Bool) → (a || b) ≡ false → b ≡ false
-right-fails false b e = e
-right-fails true b e = cc
 
 -- a number that is not told to be other than 0 is 0
 pub is-zero : (n : ℕ) → not (eqb n 0) ≡ false → n ≡ 0

@@ -23,6 +23,7 @@ use Rattle.export.specs.State.{stateIn, stateWords, readerOn}
 use Rattle.export.specs.Answer.{byteWords}
 use Rattle.export.specs.Calls.{peekedBy, takenBy}
 use Rattle.export.specs.Code.Over.{behind, isOver, overState, overAnswer}
+use Rattle.export.proofs.Booleans.{left-fails, right-fails}
 use Rattle.export.proofs.DigitBehind.{lands-between}
 use Rattle.export.proofs.here.CountedReaders.{counted-reader, named-on, at-words, own-count-word}
 use Rattle.export.proofs.here.Sight.{OnSeparator}
@@ -34,11 +35,6 @@ over-tests false false false true e h = absurd (let z : _≡_ {A = ℕ} 0 1 = cc
 over-tests false false true d e h = absurd (let z : _≡_ {A = ℕ} 0 1 = cc in omega arith)
 over-tests false true c d e h = absurd (let z : _≡_ {A = ℕ} 0 1 = cc in omega arith)
 over-tests true b c d e h = absurd (let z : _≡_ {A = ℕ} 0 1 = cc in omega arith)
-
-neither : (a b : Bool) → (a || b) ≡ false → (a ≡ false) × (b ≡ false)
-neither false false e = (refl, refl)
-neither false true e = (refl, e)
-neither true b e = absurd (let z : _≡_ {A = ℕ} 0 1 = cc in omega arith)
 
 module _ (n : ℕ) (w s : List ℕ) (over : isOver n w s ≡ true) where
   abbrev f : Format
@@ -66,11 +62,11 @@ module _ (n : ℕ) (w s : List ℕ) (over : isOver n w s ≡ true) where
 
     positive : 0 < digitSeparator f
     positive =
-        let some-separator = eqb-false (digitSeparator f) 0 (neither (eqb (digitSeparator f) 0) (eqb (getD w (3 + n) 0) 0) (tests .0) .0) in
+        let some-separator = eqb-false (digitSeparator f) 0 (left-fails (eqb (digitSeparator f) 0) (eqb (getD w (3 + n) 0) 0) (tests .0)) in
         omega (arith, some-separator)
 
     counted : eqb (countOf (stateIn w) r) 0 ≡ false
-    counted = rw (own-count-word n (here .low) w) (neither (eqb (digitSeparator f) 0) (eqb (getD w (3 + n) 0) 0) (tests .0) .1)
+    counted = rw (own-count-word n (here .low) w) (right-fails (eqb (digitSeparator f) 0) (eqb (getD w (3 + n) 0) 0) (tests .0))
 
     clear : refusalWith (flagsOf f r) s (stateIn w) r ≡ 0
     unfolding refusalWith
