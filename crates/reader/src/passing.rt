@@ -80,7 +80,7 @@ pub(crate) fn syntax_of(format: Format, reader: Reader) -> Syntax
 }
 
 // What a state says to one reader.
-pub(crate) fn syntax_for(state: State, reader: Reader) -> Syntax
+pub fn syntax_for(state: State, reader: Reader) -> Syntax
     ensures { λ r. ⌜ r ≡ syntaxFor state reader ⌝ }
 {
     syntax_of(state.format, reader)

@@ -115,7 +115,7 @@ impl State {
 }
 
 // The same state with its cursor at another place.
-pub(crate) fn moved(state: State, cursor: usize) -> State
+pub fn moved(state: State, cursor: usize) -> State
     ensures { λ r. ⌜ r ≡ movedTo state cursor ⌝ }
 {
     let mut next = state;
@@ -148,7 +148,7 @@ pub(crate) fn counted(state: State, reader: Reader) -> State
 }
 
 // The same state with another count for the reader.
-pub(crate) fn with_count(state: State, reader: Reader, count: usize) -> State
+pub fn with_count(state: State, reader: Reader, count: usize) -> State
     ensures { λ r. ⌜ r ≡ withCount state reader count ⌝ }
 {
     let mut next = state;

@@ -1,0 +1,2 @@
+-- Read in this order: the rooms value and digit_run, each beside the proofs of its module's functions. Booleans is for several rooms.
+mod Booleans

@@ -1,0 +1,2 @@
+-- Laws of values (src/value.rt).
+pub mod Growing
