@@ -4,3 +4,4 @@ pub mod Answers
 mod RefusedRuns
 pub mod RunLoop
 mod Refused
+pub mod PassedAhead

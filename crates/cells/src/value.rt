@@ -2,8 +2,7 @@
 ghost use mathlib.Core.Path.{_≡_};
 ghost use Prim.Native.Nat.{_+_, _*_, _<_};
 ghost use Rattle.word.specs.Digit.{digitValue};
-ghost use Rattle.cells.specs.Value.{withDigit};
-ghost use Rattle.cells.specs.Code.Steps.{grownTo};
+ghost use Rattle.cells.specs.Value.{withDigit, grownTo};
 use word::digit::DigitValue;
 use word::digit::digit_value;
 
@@ -47,7 +46,7 @@ fn times_plus(value: u64, radix: u64, digit: u64) -> Grown
 }
 
 // A value with the digit c behind it.
-pub(crate) fn with_digit(value: u64, radix: u8, c: u8) -> Grown
+pub fn with_digit(value: u64, radix: u8, c: u8) -> Grown
     ensures { λ r. ⌜ r ≡ grownTo (withDigit radix value (digitValue c)) ⌝ }
 {
     let digit = digit_value(c);

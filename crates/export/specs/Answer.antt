@@ -4,6 +4,7 @@ use mathlib.Core.List.{List, [], _∷_}
 use mathlib.Core.Option.{Option, some, none}
 use lib.ListN.{getD}
 use Rattle.reader.specs.Answer.{Outcome, SkipOutcome, BlockOutcome}
+use Rattle.cells.specs.DigitRun.{RunOutcome}
 
 -- whether there is something, and what it is, or without it what the caller had there
 abbrev pub isThere : Option ℕ → ℕ
@@ -21,6 +22,10 @@ byteWords old o = isThere (o .byte) ∷ orOld (getD old 1 0) (o .byte) ∷ o .ta
 -- of a zero skip: 0, how many zeros, taken, passed
 abbrev pub zerosWords : List ℕ → SkipOutcome → List ℕ
 zerosWords old o = 0 ∷ orOld (getD old 1 0) (o .zeros) ∷ o .taken ∷ o .passed ∷ []
+
+-- of a digit run: whether there is a value, the value, how many digits were taken, passed
+abbrev pub valueWords : List ℕ → RunOutcome → List ℕ
+valueWords old o = isThere (o .value) ∷ orOld (getD old 1 0) (o .value) ∷ o .taken ∷ o .passed ∷ []
 
 -- where a block begins that is taken at a cursor
 abbrev pub blockPlace : ℕ → Option ℕ → Option ℕ

@@ -7,10 +7,11 @@ use mathlib.Core.Option.{none}
 use lib.ListN.{getD}
 use Rattle.word.specs.declared.byte_set.ByteSet.{ByteSet}
 use Rattle.reader.specs.Answer.{Outcome, CountOutcome, SkipOutcome, BlockOutcome}
-use Rattle.reader.specs.Reading.{readingFor}
+use Rattle.reader.specs.Reading.{syntaxFor, readingFor}
 use Rattle.reader.specs.Calls.{peekOf, nextOf, nextAllOf, readIfOf, currentCountOf, refused}
 use Rattle.reader.specs.ZeroSkip.{refusedSkip, skipZerosOf}
 use Rattle.reader.specs.Block.{refusedBlock, takeNOf}
+use Rattle.cells.specs.DigitRun.{RunOutcome, refusedRun, digitRunOf}
 use Rattle.export.specs.State.{stateIn, readerOn, byReader}
 
 unfoldable pub peekedBy : ℕ → List ℕ → List ℕ → Outcome
@@ -33,6 +34,10 @@ setIn set = record { bits = getD set 0 0 ∷ getD set 1 0 ∷ getD set 2 0 ∷ g
 
 unfoldable pub skippedBy : ℕ → List ℕ → List ℕ → SkipOutcome
 skippedBy n w s = byReader (readerOn n (getD w 7 0)) (refusedSkip 19 (stateIn w)) (λ r. skipZerosOf (readingFor (stateIn w) r) s (stateIn w) r)
+
+-- a digit run
+unfoldable pub digitRunBy : ℕ → List ℕ → List ℕ → RunOutcome
+digitRunBy n w s = byReader (readerOn n (getD w 7 0)) (refusedRun 19 (stateIn w)) (λ r. digitRunOf (syntaxFor (stateIn w) r) s (stateIn w) r)
 
 -- a block of up to k bytes
 unfoldable pub blockTakenBy : ℕ → List ℕ → List ℕ → ℕ → BlockOutcome

@@ -3,3 +3,4 @@ pub mod Reply
 pub mod Here
 pub mod Over
 pub mod GroupedCell
+pub mod GroupedRun

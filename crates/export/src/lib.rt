@@ -15,6 +15,7 @@ use word::format_flags::Format;
 pub mod block;
 pub mod column;
 pub mod count;
+pub mod digit_run;
 pub mod here;
 pub mod next;
 pub mod next_all;

@@ -111,7 +111,7 @@ fn grouped_cell(s: &[u8], separator: u8, radix: u8) -> Grouped
 }
 
 // The count for the reader that it is, 0 for another.
-fn own(reader: u8, which: u8, count: u64) -> u64
+pub(crate) fn own(reader: u8, which: u8, count: u64) -> u64
     ensures { λ r. ⌜ r ≡ cond (eqb reader which) count 0 ⌝ }
 {
     if reader == which { count } else { 0 }

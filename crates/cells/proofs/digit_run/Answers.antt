@@ -84,7 +84,7 @@ module _ (x : Syntax) (s : List ℕ) (r : Reader) (st : State) where
   as-own : x ≡ syntaxFor st r → (at count : ℕ) → readingFor (stateAt st r at count) r ≡ m
   as-own own at count = ap readingWith (ap (λ (sheet : Sheet). syntaxOn sheet r) (sheet-stays st r at count) ∙ sym own)
 
-  module _ (own : x ≡ syntaxFor st r) (at count : ℕ) (here : Stands (x .flags) s r st at count) where
+  module _ (at count : ℕ) (here : Stands (x .flags) s r st at count) where
     stands : Stands (m .flags) s r st at count
     unfolding readingWith
     stands = here
@@ -112,7 +112,7 @@ module _ (x : Syntax) (s : List ℕ) (r : Reader) (st : State) where
           rw (takes-none m s r st place count on to refl out, at-cursor st r to count) (ends-behind m s r st at count stands place refl digit to refl out)
 
     -- a peek's answer from there
-    module _ (from : State) (is : from ≡ stateAt st r at count) (seen : Peeked) (peeks : peekOutcomeOf seen ≡ peekOf (readingFor from r) s from r) where
+    module _ (own : x ≡ syntaxFor st r) (from : State) (is : from ≡ stateAt st r at count) (seen : Peeked) (peeks : peekOutcomeOf seen ≡ peekOf (readingFor from r) s from r) where
       answered : peekOutcomeOf seen ≡ record { refusal = 0; byte = byteAt s place; taken = 0; passed = place - at; state = stateAt st r place count }
       answered =
           peeks

@@ -23,7 +23,7 @@ use Rattle.reader.proofs.state.Refusals.{within, skip-admits}
 use Rattle.reader.proofs.state.Updates.{stateAt, own-count, sum-on}
 use Rattle.cells.specs.Value.{withDigit, valueFrom, valueOf}
 use Rattle.cells.specs.DigitRun.{Digits, RunOutcome, refusedRun, readRun, digitsFrom, digitsTaken, runRefusal, digitRunOf}
-use Rattle.cells.specs.Code.Steps.{Stands, runAt, digitThen, Takes, Ends, stillRefused, endedRun, grownTo}
+use Rattle.cells.specs.Code.Steps.{Stands, runAt, digitThen, Takes, Ends, stillRefused, endedRun}
 use Rattle.cells.proofs.value.Growing.{stays-above, radix-above}
 use Rattle.cells.proofs.digit_run.RefusedRuns.{next-refused}
 
@@ -44,6 +44,20 @@ module _ (x : Syntax) (s : List ℕ) (r : Reader) (st : State) where
     pub moved : st .cursor + taken + passed ≡ at
     pub known : refused ≡ true → passedAt m s (eqb count 0) at ≡ 0
     pub small : value < 2 ^ 64
+
+  -- what is known of a separator need not be
+  pub unknown : (at count value taken passed : ℕ) (refused : Bool) → Running at count value taken passed refused → Running at count value taken passed false
+  unknown at count value taken passed refused now =
+      record {
+        worth = now .worth;
+        many = now .many;
+        over = now .over;
+        end = now .end;
+        stands = now .stands;
+        moved = now .moved;
+        known = λ e. absurd (let z : _≡_ {A = ℕ} 0 1 = cc in omega arith);
+        small = now .small;
+      }
 
   module _ (clear : skipRefusal (x .flags) s st r ≡ 0) where
     pub running-starts : Running (st .cursor) (countOf st r) 0 0 0 false

@@ -37,7 +37,7 @@ unfolding passedAt mayPass
 end-passes-none m s isFirst at out = rw (no-byte s at out)
 
 -- where a digit is seen there is a byte
-digit-inside : (m : Reading) (s : List ℕ) (at : ℕ) → seesDigit m (byteAt s at) ≡ true → at < length s
+pub digit-inside : (m : Reading) (s : List ℕ) (at : ℕ) → seesDigit m (byteAt s at) ≡ true → at < length s
 digit-inside m s at = go (byteAt s at) refl where
   go : (o : Option ℕ) → byteAt s at ≡ o → seesDigit m o ≡ true → at < length s
   go none e h = absurd (let z : _≡_ {A = ℕ} 0 1 = cc in omega arith)

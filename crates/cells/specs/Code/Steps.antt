@@ -1,11 +1,10 @@
--- A run on plain numbers (src/digit_run.rt, src/value.rt): its steps from a place with a count, and a value that may grow out of 64
--- bits. Assumes nothing.
+-- A run on plain numbers (src/digit_run.rt): its steps from a place with a count. Assumes nothing.
 use mathlib.Core.Path.{_≡_}
 use mathlib.Core.Bool.{Bool, true, cond, not, _&&_}
 use mathlib.Core.List.{List, [], _∷_}
 use mathlib.Core.Option.{Option, some, none}
-use Prim.Native.Nat.{ℕ, suc, _+_, _≤_, _^_}
-use lib.Dec.{eqb, ltb}
+use Prim.Native.Nat.{ℕ, suc, _+_, _≤_}
+use lib.Dec.{eqb}
 use lib.ListN.{length, getD}
 use Rattle.reader.specs.declared.state.Reader.{Reader}
 use Rattle.reader.specs.declared.state.State.{State}
@@ -18,12 +17,7 @@ use Rattle.reader.specs.Answer.{Outcome}
 use Rattle.reader.specs.Calls.{refusalWith}
 use Rattle.cells.specs.declared.digit_run.Step.{Step}
 use Rattle.cells.specs.declared.digit_run.Step.the-variants as step
-use Rattle.cells.specs.declared.value.Grown.{Grown}
 use Rattle.cells.specs.DigitRun.{Digits, RunOutcome, refusedRun, digitsFrom}
-
--- a value if it has 64 bits
-unfoldable pub grownTo : ℕ → Grown
-grownTo v = record { fits = ltb v (2 ^ 64); value = cond (ltb v (2 ^ 64)) v 0 }
 
 -- a digit in front of a run, with what was passed up to it
 abbrev pub digitThen : ℕ → ℕ → Digits → Digits

@@ -7,9 +7,10 @@ use Rattle.reader.specs.declared.state.State.{State}
 use Rattle.reader.specs.Calls.{refused}
 use Rattle.reader.specs.ZeroSkip.{refusedSkip}
 use Rattle.reader.specs.Block.{refusedBlock}
+use Rattle.cells.specs.DigitRun.{refusedRun}
 use Rattle.export.specs.declared.reply.Reply.{Reply}
 use Rattle.export.specs.State.{stateWords}
-use Rattle.export.specs.Code.Reply.{byteReply, zerosReply, blockReply, refusedReply, replyWords}
+use Rattle.export.specs.Code.Reply.{byteReply, zerosReply, blockReply, valueReply, refusedReply, replyWords}
 
 pub written-as :
     (w : List ℕ) (reply due : Reply) → reply ≡ due
@@ -32,3 +33,7 @@ module _ (number : ℕ) (st : State) (old : ℕ) where
   pub block-refused : (cursor : ℕ) → refusedReply number st old ≡ blockReply old cursor (refusedBlock number st)
   unfolding blockReply
   block-refused cursor = refl
+
+  pub value-refused : refusedReply number st old ≡ valueReply old (refusedRun number st)
+  unfolding valueReply
+  value-refused = refl

@@ -3,6 +3,7 @@ use Prim.Native.Nat.{ℕ}
 use mathlib.Core.List.{List, [], _∷_}
 use Rattle.reader.specs.declared.state.State.{State}
 use Rattle.reader.specs.Answer.{Outcome, SkipOutcome, BlockOutcome}
+use Rattle.cells.specs.DigitRun.{RunOutcome}
 use Rattle.export.specs.declared.reply.Reply.{Reply}
 use Rattle.export.specs.Answer.{isThere, orOld, blockPlace}
 
@@ -18,6 +19,10 @@ zerosReply old o =
 unfoldable pub blockReply : ℕ → ℕ → BlockOutcome → Reply
 blockReply old cursor o =
     record { number = o .refusal; state = o .state; found = isThere (o .block); value = orOld old (blockPlace cursor (o .block)); taken = o .taken; passed = o .passed }
+
+unfoldable pub valueReply : ℕ → RunOutcome → Reply
+valueReply old o =
+    record { number = o .refusal; state = o .state; found = isThere (o .value); value = orOld old (o .value); taken = o .taken; passed = o .passed }
 
 -- of every refused call
 abbrev pub refusedReply : ℕ → State → ℕ → Reply

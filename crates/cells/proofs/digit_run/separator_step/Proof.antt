@@ -32,7 +32,7 @@ take-seen-requires c κs =
     let k = w .before .before .before in
     let a = k .args in
     let from = rw (w .before .moved .ensures) at (w .with-count .ensures) in
-    left-fits (a .syntax) (a .s .now) (a .reader) (a .state) (k .pre .0) (a .at) (a .count) (k .pre .1) (w .with-count .result) from (p .peek .result) (p .peek .ensures)
+    left-fits (a .syntax) (a .s .now) (a .reader) (a .state) (a .at) (a .count) (k .pre .1) (k .pre .0) (w .with-count .result) from (p .peek .result) (p .peek .ensures)
 
 returns : tie.Need-returns
 returns c =
@@ -41,7 +41,7 @@ returns c =
     let k = w .before .before .before in
     let a = k .args in
     let from = rw (w .before .moved .ensures) at (w .with-count .ensures) in
-    told-taken (a .syntax) (a .s .now) (a .reader) (a .state) (k .pre .0) (a .at) (a .count) (k .pre .1) (w .with-count .result) from (p .peek .result) (p .peek .ensures) (sees-digit (a .syntax) _ _ (c .before .before .before .before .byte .given .1) _ (c .before .before .char-is-digit-by-table .ensures) true (c .before .if1 .taken)) _ (c .take-seen .ensures)
+    told-taken (a .syntax) (a .s .now) (a .reader) (a .state) (a .at) (a .count) (k .pre .1) (k .pre .0) (w .with-count .result) from (p .peek .result) (p .peek .ensures) (sees-digit (a .syntax) _ _ (c .before .before .before .before .byte .given .1) _ (c .before .before .char-is-digit-by-table .ensures) true (c .before .if1 .taken)) _ (c .take-seen .ensures)
 
 enum-told : tie.Need-enum-told
 enum-told c = search needs
@@ -56,7 +56,7 @@ returns-2 c =
     let k = w .before .before .before in
     let a = k .args in
     let from = rw (w .before .moved .ensures) at (w .with-count .ensures) in
-    told-over (a .syntax) (a .s .now) (a .reader) (a .state) (k .pre .0) (a .at) (a .count) (k .pre .1) (w .with-count .result) from (p .peek .result) (p .peek .ensures) (sees-digit (a .syntax) _ _ (c .before .before .before .byte .given .1) _ (c .before .char-is-digit-by-table .ensures) false (c .if1 .left))
+    told-over (a .syntax) (a .s .now) (a .reader) (a .state) (a .at) (a .count) (k .pre .1) (k .pre .0) (w .with-count .result) from (p .peek .result) (p .peek .ensures) (sees-digit (a .syntax) _ _ (c .before .before .before .byte .given .1) _ (c .before .char-is-digit-by-table .ensures) false (c .if1 .left))
 
 returns-3 : tie.Need-returns-3
 returns-3 c =
@@ -65,7 +65,7 @@ returns-3 c =
     let k = w .before .before .before in
     let a = k .args in
     let from = rw (w .before .moved .ensures) at (w .with-count .ensures) in
-    told-over (a .syntax) (a .s .now) (a .reader) (a .state) (k .pre .0) (a .at) (a .count) (k .pre .1) (w .with-count .result) from (p .peek .result) (p .peek .ensures) (ap (λ (o : Seen). seesDigit (readingWith (a .syntax)) (seenByte o)) (c .enum-told .given .1))
+    told-over (a .syntax) (a .s .now) (a .reader) (a .state) (a .at) (a .count) (k .pre .1) (k .pre .0) (w .with-count .result) from (p .peek .result) (p .peek .ensures) (ap (λ (o : Seen). seesDigit (readingWith (a .syntax)) (seenByte o)) (c .enum-told .given .1))
 
 returns-4 : tie.Need-returns-4
 returns-4 c =
@@ -74,7 +74,7 @@ returns-4 c =
     let k = w .before .before .before in
     let a = k .args in
     let from = rw (w .before .moved .ensures) at (w .with-count .ensures) in
-    told-over (a .syntax) (a .s .now) (a .reader) (a .state) (k .pre .0) (a .at) (a .count) (k .pre .1) (w .with-count .result) from (p .peek .result) (p .peek .ensures) (ap (λ (o : Seen). seesDigit (readingWith (a .syntax)) (seenByte o)) (c .before .byte2 .given .1))
+    told-over (a .syntax) (a .s .now) (a .reader) (a .state) (a .at) (a .count) (k .pre .1) (k .pre .0) (w .with-count .result) from (p .peek .result) (p .peek .ensures) (ap (λ (o : Seen). seesDigit (readingWith (a .syntax)) (seenByte o)) (c .before .byte2 .given .1))
 
 pub separator-step-spec : {M : Type 1} → statement M
 separator-step-spec =

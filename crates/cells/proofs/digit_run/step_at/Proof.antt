@@ -12,7 +12,7 @@ returns : tie.Need-returns
 returns c =
     let k = c .before .before in
     let a = k .args in
-    end-over (a .syntax) (a .s .now) (a .reader) (a .state) (k .pre .0) (a .at) (a .count) (k .pre .1) (c .if1 .taken)
+    end-over (a .syntax) (a .s .now) (a .reader) (a .state) (a .at) (a .count) (k .pre .1) (c .if1 .taken)
 
 shared-slice-read-b : tie.Need-shared-slice-read-b
 shared-slice-read-b c = search needs
@@ -35,14 +35,14 @@ returns-2 c =
     let k = c .before .before .before .before .before .before .before .before in
     let a = k .args in
     let inside = c .before .before .before .before .before .before .if1 .left in
-    plain-taken (a .syntax) (a .s .now) (a .reader) (a .state) (k .pre .0) (a .at) (a .count) (k .pre .1) inside (passes-none-here (a .syntax) (a .s .now) (a .reader) (a .state) (k .pre .0) (a .at) (a .count) (k .pre .1) (a .refused) (c .before .before .before .before .before .before .if1 .left) (k .pre .2) _ (λ e. eqb-false _ _ (not-true _ e)) (c .before .before .before .if2 .taken)) (sym (c .before .before .char-is-digit-by-table .ensures) ∙ c .before .if3 .taken) _ (c .count-past .ensures)
+    plain-taken (a .syntax) (a .s .now) (a .reader) (a .state) (a .at) (a .count) (k .pre .1) inside (passes-none-here (a .syntax) (a .s .now) (a .reader) (a .state) (a .at) (a .count) (k .pre .1) (a .refused) (c .before .before .before .before .before .before .if1 .left) (k .pre .2) _ (λ e. eqb-false _ _ (not-true _ e)) (c .before .before .before .if2 .taken)) (sym (c .before .before .char-is-digit-by-table .ensures) ∙ c .before .if3 .taken) _ (c .count-past .ensures)
 
 returns-3 : tie.Need-returns-3
 returns-3 c =
     let k = c .before .before .before .before .before .before .before in
     let a = k .args in
     let inside = c .before .before .before .before .before .if1 .left in
-    plain-over (a .syntax) (a .s .now) (a .reader) (a .state) (k .pre .0) (a .at) (a .count) (k .pre .1) inside (passes-none-here (a .syntax) (a .s .now) (a .reader) (a .state) (k .pre .0) (a .at) (a .count) (k .pre .1) (a .refused) (c .before .before .before .before .before .if1 .left) (k .pre .2) _ (λ e. eqb-false _ _ (not-true _ e)) (c .before .before .if2 .taken)) (sym (c .before .char-is-digit-by-table .ensures) ∙ c .if3 .left)
+    plain-over (a .syntax) (a .s .now) (a .reader) (a .state) (a .at) (a .count) (k .pre .1) inside (passes-none-here (a .syntax) (a .s .now) (a .reader) (a .state) (a .at) (a .count) (k .pre .1) (a .refused) (c .before .before .before .before .before .if1 .left) (k .pre .2) _ (λ e. eqb-false _ _ (not-true _ e)) (c .before .before .if2 .taken)) (sym (c .before .char-is-digit-by-table .ensures) ∙ c .if3 .left)
 
 separator-step-requires : tie.Need-separator-step-requires
 separator-step-requires c κs =

@@ -1,0 +1,3 @@
+-- Laws of the quick way of a digit run (src/digit_run.rt).
+mod GroupedRuns
+mod RunWords
