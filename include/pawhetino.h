@@ -90,6 +90,8 @@ static inline struct pawhetino_word pawhetino_word_of(uint8_t separator, uint8_t
 #define PAWHETINO_RECORD_CUT_SHORT 20
 #define PAWHETINO_OUT_OF_TURN 21
 #define PAWHETINO_TEXT_FULL 22
+#define PAWHETINO_NO_DIGIT 23
+#define PAWHETINO_VALUE_ABOVE_64_BITS 24
 
 /* Such a number in words. */
 static inline const char *pawhetino_number_words(uint32_t number) {
@@ -112,11 +114,13 @@ static inline const char *pawhetino_number_words(uint32_t number) {
     case PAWHETINO_INVALID_FLAGS: return "flags other than those of a word from before separators";
     case PAWHETINO_CURSOR_PAST_END: return "cursor past the end";
     case PAWHETINO_COUNTS_EXCEED_CURSOR: return "counts together exceed the cursor";
-    case PAWHETINO_NOT_BY_SPECIAL: return "the special reader has no zero skip and no block";
+    case PAWHETINO_NOT_BY_SPECIAL: return "the special reader has no zero skip, no block and no digit run";
     case PAWHETINO_UNKNOWN: return "no such reader, edition or kind of record";
     case PAWHETINO_RECORD_CUT_SHORT: return "record cut short";
     case PAWHETINO_OUT_OF_TURN: return "out of turn: call before an accepted open, or text or open after one";
     case PAWHETINO_TEXT_FULL: return "text full";
+    case PAWHETINO_NO_DIGIT: return "no digit";
+    case PAWHETINO_VALUE_ABOVE_64_BITS: return "value above 64 bits";
     default: return "no number of the log";
     }
 }
@@ -140,10 +144,11 @@ static inline const char *pawhetino_number_words(uint32_t number) {
 #define PAWHETINO_STATE_EDITION 7  /* the edition: 0 */
 
 /* The words of an answer. What word 1 tells goes by the call; where there is nothing to tell it is left as it was. */
-#define PAWHETINO_ANSWER_HAS 0    /* 1 where there is a byte or a block, else 0 */
+#define PAWHETINO_ANSWER_HAS 0    /* 1 where there is a byte, a block or a value, else 0 */
 #define PAWHETINO_ANSWER_BYTE 1   /* the byte */
 #define PAWHETINO_ANSWER_ZEROS 1  /* of a zero skip: how many */
 #define PAWHETINO_ANSWER_START 1  /* of a block: its place in the buffer */
+#define PAWHETINO_ANSWER_VALUE 1  /* of a digit run: the value */
 #define PAWHETINO_ANSWER_TAKEN 2  /* how many bytes were taken */
 #define PAWHETINO_ANSWER_PASSED 3 /* how many separators were passed */
 
@@ -172,7 +177,7 @@ uint32_t pawhetino_fresh(uint64_t lo, uint64_t hi, uint64_t edition, uint64_t st
 /* A reader call is made by one of the four readers on a buffer s of len bytes and a state. It is refused with
  *   19 for another reader, or an edition other than 0 in the state;
  *   16 where the cursor is past the end, 17 where the counts together exceed the cursor;
- *   18 by the special reader, which has no zero skip and no block take;
+ *   18 by the special reader, which has no zero skip, no block take and no digit run;
  *   12 to 14 where the reader's consecutive flag stands alone (not a block take),
  * the first of them that holds. A refused call leaves the state and word 1 of the answer as they were, and writes 0 to the answer's
  * other three. */
@@ -202,6 +207,13 @@ uint32_t pawhetino_skip_zeros(const uint8_t *s, size_t len, uint8_t reader, uint
 /* Takes up to n bytes at once, uncounted, by a reader without flags: a block, which may be empty. Its length is what was taken. A
  * reader with any flag has none and stays. */
 uint32_t pawhetino_take_n(const uint8_t *s, size_t len, uint8_t reader, uint64_t state[8], uint64_t answer[4], size_t n);
+
+/* Takes while the byte that the reader peeks is a digit, each time from the state that the peek left; the first other byte is not
+ * taken, and what the last peek passed stays passed. The answer has the value of the digits taken, by the word's mantissa radix;
+ * taken and passed are the sums of all the peeks and takes. After the refusals above it is refused with
+ *   23 where no digit is taken;
+ *   24 where the value is above 64 bits. */
+uint32_t pawhetino_digit_run(const uint8_t *s, size_t len, uint8_t reader, uint64_t state[8], uint64_t answer[4]);
 
 /* How many digits the reader has counted, as lexical-util shows it: the count in the state; for a reader without flags the cursor
  * where the word has no separator, else the sum of the three; 0 for the special reader. Refused with 19, 16 and 17 alone; *count is
