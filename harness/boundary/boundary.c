@@ -21,9 +21,9 @@
 #include "lay.h"
 #include "self_test.h"
 
-/* Every number that can be returned: by the checks 0 to 15, by pawhetino_fresh 0 to 14 and 19, by the calls 0, 12 to 14 and 16 to
- * 19. So many inputs of a seed must have brought them all about. */
-static const struct numbers_seen all_numbers = {0xFFFF, 0x87FFF, 0xF7001};
+/* Every number that can be returned: by the checks 0 to 15, by pawhetino_fresh 0 to 14 and 19, by the calls 0, 12 to 14, 16 to
+ * 19, 23 and 24. So many inputs of a seed must have brought them all about. */
+static const struct numbers_seen all_numbers = {0xFFFF, 0x87FFF, 0x18F7001};
 enum { ROUNDS_FOR_ALL_NUMBERS = 20000 };
 
 enum { DEFAULT_ROUNDS = 100000, ROUNDS_PER_TIMER = 500 };

@@ -1,4 +1,6 @@
 /* The calls of the readers. */
+#include <string.h>
+
 #include "parts.h"
 
 /* These arguments are the same for all calls that have a state. */
@@ -107,6 +109,19 @@ static void check_skip_zeros(const struct functions *f, const struct input *in) 
     promise(in, counted(in) == taken(in), "every zero is counted");
 }
 
+static void check_digit_run(const struct functions *f, const struct input *in) {
+    running = "pawhetino_digit_run";
+    struct run run;
+    uint32_t due = due_of_run(in, &run);
+    lend(in);
+    if (!accepted(in, f->digit_run(GIVEN, in->lent.answer), due)) return;
+    check_moved(in);
+    const uint64_t *answer = in->lent.answer;
+    promise(in, answer[PAWHETINO_ANSWER_HAS] == 1 && answer[PAWHETINO_ANSWER_VALUE] == run.value, "the value of the bytes taken");
+    promise(in, taken(in) == run.taken && passed(in) == run.passed, "taken and passed are the sums of the peeks and takes");
+    promise(in, memcmp(in->lent.state, run.state, sizeof run.state) == 0, "the state is the one that the last peek leaves");
+}
+
 static void check_block(const struct functions *f, const struct input *in) {
     running = "pawhetino_take_n";
     lend(in);
@@ -191,6 +206,7 @@ void check_calls(const struct functions *f, const struct input *in) {
     check_read(f, in, false);
     check_next_all(f, in);
     check_skip_zeros(f, in);
+    check_digit_run(f, in);
     check_block(f, in);
     check_count(f, in);
     check_plain(f, in, false);

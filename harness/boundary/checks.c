@@ -15,6 +15,7 @@ const struct functions library = {
     .read_if = pawhetino_read_if,
     .read_if_value_cased = pawhetino_read_if_value_cased,
     .skip_zeros = pawhetino_skip_zeros,
+    .digit_run = pawhetino_digit_run,
     .take_n = pawhetino_take_n,
     .current_count = pawhetino_current_count,
     .plain_peek = pawhetino_plain_peek,

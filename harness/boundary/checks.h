@@ -11,7 +11,7 @@ struct functions {
     typeof(pawhetino_is_valid_ascii) *is_valid_ascii;
     typeof(pawhetino_is_digit) *is_digit, *is_digit_separator;
     typeof(pawhetino_fresh) *fresh;
-    typeof(pawhetino_peek) *peek, *next, *next_all, *skip_zeros;
+    typeof(pawhetino_peek) *peek, *next, *next_all, *skip_zeros, *digit_run;
     typeof(pawhetino_next_all_column) *next_all_column;
     typeof(pawhetino_read_if) *read_if;
     typeof(pawhetino_read_if_value_cased) *read_if_value_cased;

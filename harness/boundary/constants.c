@@ -117,9 +117,30 @@ static bool calls_are_refused(void) {
     return true;
 }
 
+/* A digit run for each of its two numbers, and for the largest value. */
+static bool runs_are_told(void) {
+    static const struct {
+        const char *cell;
+        uint32_t number;
+        uint64_t value;
+    } runs[] = {
+        {"x", PAWHETINO_NO_DIGIT, 7},
+        {"18446744073709551616", PAWHETINO_VALUE_ABOVE_64_BITS, 7},
+        {"18446744073709551615", PAWHETINO_SUCCESS, UINT64_MAX},
+    };
+    for (size_t i = 0; i < sizeof runs / sizeof *runs; i++) {
+        uint64_t state[8] = {0, DECIMAL}, answer[4] = {7, 7, 7, 7};
+        const uint8_t *cell = (const uint8_t *)runs[i].cell;
+        uint32_t number = pawhetino_digit_run(cell, strlen(runs[i].cell), PAWHETINO_INTEGER, state, answer);
+        if (!told(number == runs[i].number && answer[PAWHETINO_ANSWER_VALUE] == runs[i].value, "a run's number", number))
+            return false;
+    }
+    return true;
+}
+
 /* Each number has words of its own, and all others share theirs. */
 static bool numbers_have_words(void) {
-    const uint32_t other = PAWHETINO_TEXT_FULL + 1;
+    const uint32_t other = PAWHETINO_VALUE_ABOVE_64_BITS + 1;
     for (uint32_t number = 1; number <= other; number++)
         for (uint32_t before = 0; before < number; before++)
             if (!told(strcmp(pawhetino_number_words(number), pawhetino_number_words(before)) != 0, "words", number)) return false;
@@ -128,5 +149,5 @@ static bool numbers_have_words(void) {
 
 bool constants_hold(void) {
     return words_are_refused() && plain_words_are_told() && flags_let_pass() && states_have_their_places() &&
-           calls_are_refused() && numbers_have_words();
+           calls_are_refused() && runs_are_told() && numbers_have_words();
 }

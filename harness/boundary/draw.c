@@ -60,6 +60,33 @@ static void draw_buffer(struct drawn *drawn) {
     for (size_t i = 0; i < drawn->input.len; i++) drawn->bytes[i] = draw_byte(&drawn->input, separators);
 }
 
+/* As many as 2 to the power of 64 has in radix 2, and zeros. */
+enum { MOST_DIGITS = 80 };
+
+/* The digits of a number about the largest of 64 bits, lowest first, with some zeros above them: how many. */
+static size_t draw_digits(uint8_t radix, uint8_t digits[MOST_DIGITS]) {
+    unsigned __int128 left = (unsigned __int128)UINT64_MAX + below(3) - 1;
+    size_t count = 0;
+    for (; count < MOST_DIGITS && (left > 0 || below(2) == 0); left /= radix)
+        digits[count++] = (uint8_t)"0123456789abcdefghijklmnopqrstuvwxyz"[left % radix];
+    return count;
+}
+
+/* In place of buffer and cursor, a fresh cell of such digits, often with separators between: else hardly a digit run would come to
+ * the last value that it tells. */
+static void draw_large_number(struct drawn *drawn) {
+    struct input *in = &drawn->input;
+    uint8_t digits[MOST_DIGITS], radix = in->state[PAWHETINO_STATE_HI] >> 40 & 0xFF;
+    if (radix < 2 || radix > 36) return;
+    bool grouped = below(2) == 0;
+    in->len = 0;
+    for (size_t i = draw_digits(radix, digits); i > 0; i--) {
+        drawn->bytes[in->len++] = digits[i - 1];
+        if (grouped && below(8) == 0) drawn->bytes[in->len++] = in->state[PAWHETINO_STATE_HI] & 0xFF;
+    }
+    for (int i = PAWHETINO_STATE_CURSOR; i <= PAWHETINO_STATE_EXPONENT; i++) in->state[i] = 0;
+}
+
 /* Any number: small, near a bound, near the largest, any bits. */
 static size_t any_number(size_t bound) {
     switch (below(5)) {
@@ -108,6 +135,7 @@ void draw(struct drawn *drawn, uint64_t seed, uint64_t round) {
     draw_word(&in->state[PAWHETINO_STATE_LO], &in->state[PAWHETINO_STATE_HI]);
     draw_buffer(drawn);
     draw_cursor_and_counts(in);
+    if (below(16) == 0) draw_large_number(drawn);
     draw_kept(in);
     draw_ends(drawn);
     in->reader = below(12) == 0 ? (uint8_t)bits() : (uint8_t)below(4);

@@ -10,13 +10,14 @@ unsigned flags(const struct input *in) {
     return (own & 1) | (own >> 2 & 2) | (own >> 4 & 4) | (own >> 6 & 8);
 }
 
-bool is_digit_of(uint8_t c, uint32_t radix) {
-    uint32_t value = 255;
-    if (c >= '0' && c <= '9') value = c - '0';
-    if (c >= 'A' && c <= 'Z') value = c - 'A' + 10;
-    if (c >= 'a' && c <= 'z') value = c - 'a' + 10;
-    return value < radix;
+uint32_t digit_value(uint8_t c) {
+    if (c >= '0' && c <= '9') return c - '0';
+    if (c >= 'A' && c <= 'Z') return c - 'A' + 10;
+    if (c >= 'a' && c <= 'z') return c - 'a' + 10;
+    return 255;
 }
+
+bool is_digit_of(uint8_t c, uint32_t radix) { return digit_value(c) < radix; }
 
 /* Whether the counts together exceed the cursor; their sum may be more than a number holds. */
 static bool counts_exceed(const struct input *in) {

@@ -28,13 +28,25 @@ uint8_t mantissa_radix(const struct input *in);
 /* Internal 1, leading 2, trailing 4, consecutive 8, of a counted reader. */
 unsigned flags(const struct input *in);
 
-/* Whether the value of a figure or letter is below the radix; other bytes have 255, which is what the radixes above it go by. */
+/* The value of a figure or letter; other bytes have 255. */
+uint32_t digit_value(uint8_t c);
+
+/* Whether the value is below the radix; 255 is what the radixes above it go by. */
 bool is_digit_of(uint8_t c, uint32_t radix);
 
 /* The refusals that are due of calls, or 0: of any that has a state, of one that goes by rules too, and of a column. */
 uint32_t due_of_state(const struct input *in, bool has_special);
 uint32_t due_of_rules(const struct input *in, bool has_special);
 uint32_t due_of_column(const struct input *in);
+
+/* What a digit run comes to. */
+struct run {
+    uint64_t state[8], taken, passed;
+    unsigned __int128 value;
+};
+
+/* The refusal that is due of a digit run, or 0, with what it comes to. */
+uint32_t due_of_run(const struct input *in, struct run *run);
 
 /* The two halves of check_all. */
 void check_words_and_bytes(const struct functions *f, const struct input *in);

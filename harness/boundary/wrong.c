@@ -1,4 +1,5 @@
 #include "wrong.h"
+#include "parts.h"
 
 /* State, answer and set are plain pointers here, since a compiler that knows their length refuses a step beside them. */
 #define CALL(name) static uint32_t name(const uint8_t *s, size_t len, uint8_t reader, uint64_t *state, uint64_t *answer)
@@ -141,6 +142,11 @@ FRESH(tests_the_word_before_the_edition) {
     return number != 0 ? number : pawhetino_fresh(lo, hi, edition, state);
 }
 
+CALL(refuses_the_last_value) {
+    uint32_t number = pawhetino_digit_run(ARGUMENTS);
+    return number == 0 && answer[PAWHETINO_ANSWER_VALUE] == UINT64_MAX ? PAWHETINO_VALUE_ABOVE_64_BITS : number;
+}
+
 /* Wrong states. */
 
 FRESH(writes_though_refused) {
@@ -195,6 +201,41 @@ CALL(counts_for_another) {
     return number;
 }
 
+CALL(keeps_a_refused_passing) {
+    uint64_t peeked[4];
+    uint32_t number = pawhetino_digit_run(ARGUMENTS);
+    if (number == PAWHETINO_NO_DIGIT) pawhetino_peek(s, len, reader, state, peeked);
+    return number;
+}
+
+CALL(leaves_the_state_of_a_run) {
+    uint64_t moved[8];
+    for (int i = 0; i < 8; i++) moved[i] = state[i];
+    return pawhetino_digit_run(s, len, reader, moved, answer);
+}
+
+CALL(counts_no_digit_of_a_run) {
+    uint64_t before = state[PAWHETINO_STATE_INTEGER];
+    uint32_t number = pawhetino_digit_run(ARGUMENTS);
+    state[PAWHETINO_STATE_INTEGER] = before;
+    return number;
+}
+
+CALL(goes_back_behind_a_run) {
+    uint32_t number = pawhetino_digit_run(ARGUMENTS);
+    uint64_t *cursor = &state[PAWHETINO_STATE_CURSOR];
+    if (number != 0 || answer[PAWHETINO_ANSWER_PASSED] == 0) return number;
+    if (pawhetino_is_digit_separator(state[0], state[1], s[*cursor - 1])) *cursor -= 1, answer[PAWHETINO_ANSWER_PASSED] -= 1;
+    return number;
+}
+
+CALL(takes_the_first_other_byte) {
+    uint32_t number = pawhetino_digit_run(ARGUMENTS);
+    uint64_t *cursor = &state[PAWHETINO_STATE_CURSOR];
+    if (number == 0 && *cursor < len) *cursor += 1, answer[PAWHETINO_ANSWER_TAKEN] += 1;
+    return number;
+}
+
 static uint32_t peeks_and_moves(const uint8_t *s, size_t len, uint8_t reader, size_t *cursor, uint64_t *answer) {
     uint32_t number = pawhetino_plain_peek(s, len, reader, cursor, answer);
     if (number == 0) *cursor += answer[PAWHETINO_ANSWER_HAS];
@@ -218,6 +259,32 @@ CALL(tells_zeros_though_refused) {
 CALL(takes_though_refused) {
     uint32_t number = pawhetino_next(ARGUMENTS);
     if (number != 0) answer[PAWHETINO_ANSWER_TAKEN] = 1;
+    return number;
+}
+
+CALL(tells_a_value_though_refused) {
+    uint32_t number = pawhetino_digit_run(ARGUMENTS);
+    if (number == PAWHETINO_VALUE_ABOVE_64_BITS) answer[PAWHETINO_ANSWER_VALUE] = UINT64_MAX;
+    return number;
+}
+
+CALL(tells_one_more) {
+    uint32_t number = pawhetino_digit_run(ARGUMENTS);
+    if (number == 0) answer[PAWHETINO_ANSWER_VALUE] += 1;
+    return number;
+}
+
+/* Peeks and takes once more on words of its own. */
+CALL(tells_the_bytes_peeked) {
+    uint64_t peeked[8], step[4], value = 0;
+    for (int i = 0; i < 8; i++) peeked[i] = state[i];
+    uint32_t number = pawhetino_digit_run(ARGUMENTS);
+    for (uint64_t i = 0; number == 0 && i < answer[PAWHETINO_ANSWER_TAKEN]; i++) {
+        pawhetino_peek(s, len, reader, peeked, step);
+        value = value * (state[1] >> 40 & 0xFF) + digit_value((uint8_t)step[PAWHETINO_ANSWER_BYTE]);
+        pawhetino_next(s, len, reader, peeked, step);
+    }
+    if (number == 0) answer[PAWHETINO_ANSWER_VALUE] = value;
     return number;
 }
 
@@ -266,6 +333,7 @@ const struct fault faults[] = {
     {"the cursor before the edition", {.peek = tests_the_edition_after_the_cursor}, "pawhetino_peek: broken: the number is"},
     {"a fresh state of any edition", {.fresh = makes_any_edition}, "pawhetino_fresh: broken: the number is"},
     {"the word before the edition", {.fresh = tests_the_word_before_the_edition}, "pawhetino_fresh: broken: the number is"},
+    {"the last value refused", {.digit_run = refuses_the_last_value}, "pawhetino_digit_run: broken: the number is"},
     {"a refused fresh state", {.fresh = writes_though_refused}, "broken: a refused fresh state is not written"},
     {"a fresh state's word left", {.fresh = leaves_word_6}, "broken: a fresh state is the word, zeros and the edition"},
     {"a kept word cleared", {.peek = clears_word_6}, "pawhetino_peek: broken: words 0, 1, 6 and 7 of the state"},
@@ -274,10 +342,18 @@ const struct fault faults[] = {
     {"a cursor past the end", {.next = takes_past_the_end}, "broken: the cursor stays within the buffer"},
     {"every byte counted", {.next = counts_every_byte}, "broken: a reader with any flag counts a digit"},
     {"another reader's count", {.skip_zeros = counts_for_another}, "broken: another reader's count stays"},
+    {"a refused run's passing", {.digit_run = keeps_a_refused_passing}, "run: broken: a refused call leaves the state"},
+    {"a run that does not move", {.digit_run = leaves_the_state_of_a_run}, "run: broken: the cursor moves by taken and passed"},
+    {"a run that does not count", {.digit_run = counts_no_digit_of_a_run}, "broken: the state is the one that the last peek"},
+    {"a run's last passing lost", {.digit_run = goes_back_behind_a_run}, "broken: taken and passed are the sums of the peeks"},
+    {"a run's first other byte", {.digit_run = takes_the_first_other_byte}, "broken: taken and passed are the sums of the peeks"},
     {"a plain peek that moves", {.plain_peek = peeks_and_moves}, "broken: the cursor moves past a byte that is taken"},
     {"a byte told at the end", {.peek = tells_a_byte_at_the_end}, "broken: without a byte its word stays as it was"},
     {"a refused call's zeros", {.skip_zeros = tells_zeros_though_refused}, "broken: a refused call leaves word 1"},
     {"a refused call's take", {.next = takes_though_refused}, "broken: a refused call answers 0"},
+    {"a refused run's value", {.digit_run = tells_a_value_though_refused}, "run: broken: a refused call leaves word 1"},
+    {"a run's value and one", {.digit_run = tells_one_more}, "broken: the value of the bytes taken"},
+    {"a run's bytes peeked", {.digit_run = tells_the_bytes_peeked}, "broken: the value of the bytes taken"},
     {"a block too long", {.take_n = takes_a_block_too_long}, "pawhetino_take_n: broken: the cursor moves by"},
     {"a block's place", {.take_n = begins_a_block_at_0}, "pawhetino_take_n: broken: a block begins at the cursor"},
     {"a column's digit lost", {.next_all_column = loses_a_digit}, "broken: the sums are those of pawhetino_next_all"},
