@@ -1,5 +1,5 @@
-/* The library from C: a cell, zeros and a block, a column of cells, and a word that is refused. Each function returns whether
- * something came out otherwise than it must. */
+/* The library from C: a cell and its value, zeros and a block, a column of cells, and a word that is refused. Each function returns
+ * whether something came out otherwise than it must. */
 #include <inttypes.h>
 #include <stdio.h>
 
@@ -23,6 +23,17 @@ static int read_cell(struct pawhetino_word word) {
            answer[PAWHETINO_ANSWER_PASSED]);
     return state[PAWHETINO_STATE_CURSOR] != sizeof cell || state[PAWHETINO_STATE_INTEGER] != 4 ||
            answer[PAWHETINO_ANSWER_TAKEN] != 4 || answer[PAWHETINO_ANSWER_PASSED] != 1;
+}
+
+/* The same cell as a number. A cursor short of the end would mean that a byte is left which is no digit. */
+static int read_value(struct pawhetino_word word) {
+    static const uint8_t cell[] = {'1', '_', '2', '0', '4'};
+    uint64_t state[8], answer[4];
+    uint32_t number = pawhetino_fresh(word.lo, word.hi, 0, state);
+    if (number == PAWHETINO_SUCCESS) number = pawhetino_digit_run(cell, sizeof cell, PAWHETINO_INTEGER, state, answer);
+    if (is_refused("1_204", number)) return 1;
+    printf("1_204: the number %" PRIu64 "\n", answer[PAWHETINO_ANSWER_VALUE]);
+    return state[PAWHETINO_STATE_CURSOR] != sizeof cell || answer[PAWHETINO_ANSWER_VALUE] != 1204;
 }
 
 /* `00_12`: the integer reader skips the zeros, and its read that fails passes the separator; the fraction reader, which has no
@@ -64,6 +75,6 @@ static int refuse_word(void) {
 int main(void) {
     /* Separator `_` between the digits of the integer, radix 10. */
     struct pawhetino_word word = pawhetino_word_of('_', 10, PAWHETINO_INTEGER_INTERNAL);
-    int wrong = read_cell(word) + skip_zeros_and_take_block(word) + read_column(word) + refuse_word();
+    int wrong = read_cell(word) + read_value(word) + skip_zeros_and_take_block(word) + read_column(word) + refuse_word();
     return wrong != 0;
 }
