@@ -46,7 +46,7 @@ fn times_plus(value: u64, radix: u64, digit: u64) -> Grown
 }
 
 // A value with the digit c behind it.
-pub fn with_digit(value: u64, radix: u8, c: u8) -> Grown
+pub(crate) fn with_digit(value: u64, radix: u8, c: u8) -> Grown
     ensures { λ r. ⌜ r ≡ grownTo (withDigit radix value (digitValue c)) ⌝ }
 {
     let digit = digit_value(c);

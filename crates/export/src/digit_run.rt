@@ -1,7 +1,9 @@
 // Digit runs. Most cells are read from a fresh state, begin with a digit, and each of their separators stands right before one: such cells
 // go by numbers, and nothing is asked of the rule table.
 ghost use mathlib.Core.Path.{_≡_};
-ghost use mathlib.Core.Bool.{true, false};
+ghost use mathlib.Core.Bool.{true, false, not};
+ghost use Prim.Native.Nat.{_+_, _*_, _<_};
+ghost use lib.Dec.{eqb};
 ghost use Rattle.cells.specs.DigitRun.{runOutcomeOf};
 ghost use Rattle.export.specs.State.{stateWords};
 ghost use Rattle.export.specs.Answer.{valueWords};
@@ -14,15 +16,16 @@ use crate::over::has_internal;
 use crate::reply::Reply;
 use crate::reply::put;
 use crate::reply::refused;
+use crate::reply::wide;
 use crate::state::reader_on;
 use crate::state::state_in;
 use cells::digit_run::Number;
 use cells::digit_run::RunAnswer;
 use cells::digit_run::digit_run;
-use cells::value::with_digit;
 use reader::state::Named;
-use word::digit::char_is_digit_by_range;
+use word::digit::DigitValue;
 use word::digit::char_is_digit_by_table;
+use word::digit::digit_value;
 use word::format_flags::Format;
 
 fn of_run(answer: RunAnswer, old: u64) -> Reply
@@ -112,6 +115,29 @@ fn not_grouped() -> GroupedRun
     }
 }
 
+// It is one if it has a digit.
+fn grouped(at: usize, value: u64, count: usize, passed: usize) -> GroupedRun
+    ensures { λ r. ⌜ r ≡ record { «is_so» = not (eqb count 0); at = at; value = value; count = count; passed = passed } ⌝ }
+{
+    GroupedRun {
+        is_so: count != 0,
+        at,
+        value,
+        count,
+        passed,
+    }
+}
+
+// Below this no digit of any radix takes a value above 64 bits.
+const SMALL: u64 = 72057594037927936;
+
+fn times_plus(value: u64, radix: u8, digit: u8) -> u64
+    requires { ⌜ value < 72057594037927936 ⌝ }
+    ensures { λ r. ⌜ r ≡ value * radix + digit ⌝ }
+{
+    value * wide(radix) + wide(digit)
+}
+
 fn grouped_run(s: &[u8], separator: u8, radix: u8) -> GroupedRun
     ensures { λ p. ⌜ (p .«is_so» ≡ true → Run separator radix (now (s .entry)) (p .at) (p .value) (p .count) (p .passed)) ⌝ }
 {
@@ -133,37 +159,32 @@ fn grouped_run(s: &[u8], separator: u8, radix: u8) -> GroupedRun
             if c == separator {
                 return not_grouped();
             }
-            if !char_is_digit_by_range(c, radix) {
+            if !char_is_digit_by_table(c, radix) {
                 return not_grouped();
             }
             passed += 1;
             at = n;
             continue;
         }
-        if !char_is_digit_by_table(b, radix) {
-            return GroupedRun {
-                is_so: count != 0,
-                at,
-                value,
-                count,
-                passed,
-            };
+        let digit = digit_value(b);
+        match digit {
+            DigitValue::Value(d) => {
+                if radix <= d {
+                    return grouped(at, value, count, passed);
+                }
+                if SMALL <= value {
+                    return not_grouped();
+                }
+                value = times_plus(value, radix, d);
+                count += 1;
+                at += 1;
+            }
+            DigitValue::NoValue => {
+                return grouped(at, value, count, passed);
+            }
         }
-        let grown = with_digit(value, radix, b);
-        if !grown.fits {
-            return not_grouped();
-        }
-        value = grown.value;
-        count += 1;
-        at += 1;
     }
-    GroupedRun {
-        is_so: count != 0,
-        at,
-        value,
-        count,
-        passed,
-    }
+    grouped(at, value, count, passed)
 }
 
 // Takes the digits under the cursor, until a peek sees another byte or the end: their exact value.

@@ -2,13 +2,13 @@
 use mathlib.Core.Path.{_≡_, _∙_, refl, sym, ap}
 use mathlib.Core.Bool.{Bool, true, false, cond, not, _&&_}
 use mathlib.Core.List.{List, [], _∷_}
-use mathlib.Core.Option.{some}
-use Prim.Native.Nat.{ℕ, _+_, _-_, _<_, _≤_, _^_}
+use mathlib.Core.Option.{some, none}
+use Prim.Native.Nat.{ℕ, _+_, _*_, _-_, _<_, _≤_, _^_}
 use native.Mathlib.Nat.{add-zero}
 use native.Mathlib.Omega.{arith}
 use lib.Dec.{leb, eqb}
 use lib.ListN.{length, getD}
-use borrow.Author.Tests.{le-leb, ne-eqb}
+use borrow.Author.Tests.{le-leb, ne-eqb, lt-ltb, le-ltb}
 use Rattle.word.specs.declared.format_flags.Format.{Format}
 use Rattle.word.specs.Digit.{digitValue, isDigit}
 use Rattle.word.specs.Check.{line, firstFailing}
@@ -23,7 +23,6 @@ use Rattle.reader.specs.ZeroSkip.{skipRefusal}
 use Rattle.reader.proofs.passing.Places.{byte-here, no-separator}
 use Rattle.reader.proofs.passing.Landings.{stays-on-other}
 use Rattle.reader.proofs.state.Updates.{stateAt, fresh-count}
-use Rattle.cells.specs.Value.{withDigit}
 use Rattle.cells.specs.DigitRun.{RunOutcome, seesDigit, digitRunOf}
 use Rattle.cells.specs.Code.Steps.{Ends, endedRun}
 use Rattle.cells.proofs.digit_run.Answers.{plain-taken, plain-over, end-over}
@@ -31,6 +30,19 @@ use Rattle.cells.proofs.digit_run.RunLoop.{Running, unknown, running-starts, ru
 use Rattle.cells.proofs.digit_run.PassedAhead.{running-past}
 use Rattle.export.specs.Code.GroupedCell.{Between}
 use Rattle.export.proofs.DigitBehind.{lands-between}
+
+-- a byte by its value
+pub is-digit : (c d radix : ℕ) → digitValue c ≡ some d → d < radix → isDigit c radix ≡ true
+unfolding isDigit
+is-digit c d radix known low = rw known (lt-ltb d radix low)
+
+pub is-above : (c d radix : ℕ) → digitValue c ≡ some d → radix ≤ d → isDigit c radix ≡ false
+unfolding isDigit
+is-above c d radix known high = rw known (le-ltb d radix high)
+
+pub is-none : (c radix : ℕ) → digitValue c ≡ none → radix < 256 → isDigit c radix ≡ false
+unfolding isDigit
+is-none c radix known small = rw known (le-ltb 255 radix (omega arith))
 
 module _ (separator radix : ℕ) (s : List ℕ) (x : Syntax) (f : Format) (r : Reader) (b : Between x separator radix r) where
   -- a run from a fresh state is not refused to such a reader
@@ -51,14 +63,15 @@ module _ (separator radix : ℕ) (s : List ℕ) (x : Syntax) (f : Format) (r : R
 
   module _ (at count value passed : ℕ) (here : Running x s r (freshOf f) at count value count passed false) where
     -- a digit
-    pub grouped-digit : at < length s → (getD s at 0 ≡ separator → ⊥) → isDigit (getD s at 0) radix ≡ true
-        → (v : ℕ) → v ≡ withDigit radix value (digitValue (getD s at 0)) → v < 2 ^ 64
+    pub grouped-digit : at < length s → (getD s at 0 ≡ separator → ⊥) → (d : ℕ) → digitValue (getD s at 0) ≡ some d → d < radix
+        → (v : ℕ) → v ≡ value * radix + d → v < 2 ^ 64
         → Running x s r (freshOf f) (at + 1) (count + 1) v (count + 1) passed false
-    grouped-digit inside differ digit v worth small =
+    grouped-digit inside differ d known low v worth small =
+        let digit = is-digit (getD s at 0) d radix known low in
         let nothing = passes-none (eqb count 0) at inside differ in
         let counts : count + 1 ≡ cond (hasAnyFlag (x .flags)) (count + 1) count = rw (b .internal) in
         let took = plain-taken x s r (freshOf f) at count (here .stands) inside nothing (rw (b .own-radix) digit) (count + 1) counts in
-        let on = running-on x s r (freshOf f) clear at count value count passed false here (getD s at 0) (at + 1) (count + 1) 0 took v (rw (b .own-radix) worth) small in
+        let on = running-on x s r (freshOf f) clear at count value count passed false here (getD s at 0) (at + 1) (count + 1) 0 took v (rw (known, b .own-radix) worth) small in
         rw (add-zero passed) at (unknown x s r (freshOf f) (at + 1) (count + 1) v (count + 1) (passed + 0) _ on)
 
     -- a separator right before a digit

@@ -7,14 +7,13 @@ use borrow.Author.Needs.{needs}
 use borrow.Author.Tests.{eqb-false, not-true, not-false}
 use lib.ListN.{length}
 use Rattle.word.specs.declared.format_flags.Format.{Format}
+use Rattle.word.specs.Digit.{valueOf}
 use Rattle.reader.specs.declared.state.Reader.{Reader}
 use Rattle.reader.specs.declared.passing.Syntax.{Syntax}
 use Rattle.reader.specs.State.{freshOf}
-use Rattle.cells.specs.declared.value.Grown.{Grown}
-use Rattle.cells.proofs.value.Growing.{grown-in}
 use Rattle.cells.proofs.digit_run.RunLoop.{Running}
 use Rattle.export.specs.Code.GroupedCell.{Between}
-use Rattle.export.proofs.digit_run.GroupedRuns.{grouped-starts, grouped-digit, grouped-passes, grouped-stops, grouped-out}
+use Rattle.export.proofs.digit_run.GroupedRuns.{is-above, is-none, grouped-starts, grouped-digit, grouped-passes, grouped-stops, grouped-out}
 use Rattle.export.proofs.digit_run.grouped_run.Statement.{statement}
 use Rattle.export.proofs.digit_run.grouped_run.Tie as tie
 
@@ -65,8 +64,8 @@ returns-3 : tie.Need-returns-3 Inv-loop μ-loop
 returns-3 c =
     λ so. absurd (false≢true (sym (c .not-grouped3 .ensures) ∙ so))
 
-char-is-digit-by-range-requires : tie.Need-char-is-digit-by-range-requires Inv-loop μ-loop
-char-is-digit-by-range-requires c κs = search needs
+char-is-digit-by-table-requires : tie.Need-char-is-digit-by-table-requires Inv-loop μ-loop
+char-is-digit-by-table-requires c κs = search needs
 
 not-grouped-requires-4 : tie.Need-not-grouped-requires-4 Inv-loop μ-loop
 not-grouped-requires-4 c κs = search needs
@@ -90,21 +89,26 @@ loop-again c =
     let i = l .loop .inv in
     let inside = c .before .before .before .before .before .before .before .before .loop-test .taken in
     let more = c .before .before .before .before .before .if2 .left in
-    (omega (arith, more), omega (arith, i .1), λ x f r b. grouped-passes (a .separator) (a .radix) (a .s .now) x f r b (l .loop .at) (l .loop .count) (l .loop .value) (l .loop .passed) (i .2 x f r b) inside (c .before .before .before .before .before .before .if1 .taken) more (c .before .before .if4 .left) (sym (c .before .char-is-digit-by-range .ensures) ∙ not-false _ (c .if5 .left)) (c .before .before .before .before .if3 .left))
+    (omega (arith, more), omega (arith, i .1), λ x f r b. grouped-passes (a .separator) (a .radix) (a .s .now) x f r b (l .loop .at) (l .loop .count) (l .loop .value) (l .loop .passed) (i .2 x f r b) inside (c .before .before .before .before .before .before .if1 .taken) more (c .before .before .if4 .left) (sym (c .before .char-is-digit-by-table .ensures) ∙ not-false _ (c .if5 .left)) (c .before .before .before .before .if3 .left))
 
-char-is-digit-by-table-requires : tie.Need-char-is-digit-by-table-requires Inv-loop μ-loop
-char-is-digit-by-table-requires c κs = search needs
+digit-value-requires : tie.Need-digit-value-requires Inv-loop μ-loop
+digit-value-requires c κs = search needs
+
+enum-known-digit : tie.Need-enum-known-digit Inv-loop μ-loop
+enum-known-digit c = search needs
+
+grouped-requires : tie.Need-grouped-requires Inv-loop μ-loop
+grouped-requires c κs = search needs
 
 returns-5 : tie.Need-returns-5 Inv-loop μ-loop
 returns-5 c =
-    let l = c .before .before .before .before .before in
+    let l = c .before .before .before .before .before .before .before .before .before in
     let a = l .before .before .args in
     let i = l .loop .inv in
-    λ so x f r b.
-    grouped-stops (a .separator) (a .radix) (a .s .now) x f r b (l .loop .at) (l .loop .count) (l .loop .value) (l .loop .passed) (i .2 x f r b) (eqb-false _ _ (not-true _ so)) (c .before .before .before .before .loop-test .taken) (c .before .before .if1 .left) (sym (c .before .char-is-digit-by-table .ensures) ∙ not-true _ (c .if6 .taken))
-
-with-digit-requires : tie.Need-with-digit-requires Inv-loop μ-loop
-with-digit-requires c κs = search needs
+    let known = sym (c .before .before .before .before .before .digit-value .ensures) ∙ ap valueOf (c .before .before .before .digit .given .1) in
+    rw (c .grouped .ensures)
+    (λ so x f r b.
+    grouped-stops (a .separator) (a .radix) (a .s .now) x f r b (l .loop .at) (l .loop .count) (l .loop .value) (l .loop .passed) (i .2 x f r b) (eqb-false _ _ (not-true _ so)) (c .before .before .before .before .before .before .before .before .loop-test .taken) (c .before .before .before .before .before .before .if1 .left) (is-above _ _ (a .radix) known (c .before .if6 .taken)))
 
 not-grouped-requires-5 : tie.Need-not-grouped-requires-5 Inv-loop μ-loop
 not-grouped-requires-5 c κs = search needs
@@ -112,6 +116,10 @@ not-grouped-requires-5 c κs = search needs
 returns-6 : tie.Need-returns-6 Inv-loop μ-loop
 returns-6 c =
     λ so. absurd (false≢true (sym (c .not-grouped5 .ensures) ∙ so))
+
+times-plus-requires : tie.Need-times-plus-requires Inv-loop μ-loop
+times-plus-requires c κs =
+    omega (arith, c .if7 .left)
 
 add-count : tie.Need-add-count Inv-loop μ-loop
 add-count c =
@@ -127,21 +135,38 @@ loop-less-2 c =
 
 loop-again-2 : tie.Need-loop-again-2 Inv-loop μ-loop
 loop-again-2 c =
-    let l = c .before .before .before .before .before .before .before .before in
+    let l = c .before .before .before .before .before .before .before .before .before .before in
     let a = l .before .before .args in
     let i = l .loop .inv in
-    let inside = c .before .before .before .before .before .before .before .loop-test .taken in
-    let grown = c .before .before .with-digit .ensures in
-    let fits = grown-in _ (sym (ap (λ (g : Grown). g .fits) grown) ∙ not-false _ (c .if7 .left)) in
-    let value = ap (λ (g : Grown). g .value) grown in
-    (omega (arith, inside), omega (arith, i .1), λ x f r b. grouped-digit (a .separator) (a .radix) (a .s .now) x f r b (l .loop .at) (l .loop .count) (l .loop .value) (l .loop .passed) (i .2 x f r b) inside (c .before .before .before .before .before .if1 .left) (sym (c .before .before .before .before .char-is-digit-by-table .ensures) ∙ not-false _ (c .before .before .before .if6 .left)) _ (value ∙ fits .0) (omega (arith, value, fits .0, fits .1)))
+    let inside = c .before .before .before .before .before .before .before .before .before .loop-test .taken in
+    let known = sym (c .before .before .before .before .before .before .digit-value .ensures) ∙ ap valueOf (c .before .before .before .before .digit .given .1) in
+    (omega (arith, inside), omega (arith, i .1), λ x f r b. grouped-digit (a .separator) (a .radix) (a .s .now) x f r b (l .loop .at) (l .loop .count) (l .loop .value) (l .loop .passed) (i .2 x f r b) inside (c .before .before .before .before .before .before .before .if1 .left) _ known (c .before .before .if6 .left) _ (c .times-plus .ensures) (omega arith))
+
+enum-told : tie.Need-enum-told Inv-loop μ-loop
+enum-told c = search needs
+
+grouped-requires-2 : tie.Need-grouped-requires-2 Inv-loop μ-loop
+grouped-requires-2 c κs = search needs
 
 returns-7 : tie.Need-returns-7 Inv-loop μ-loop
 returns-7 c =
-    let l = c .before in
+    let l = c .before .before .before .before .before .before .before in
     let a = l .before .before .args in
     let i = l .loop .inv in
-    λ so x f r b. grouped-out (a .separator) (a .radix) (a .s .now) x f r b (l .loop .at) (l .loop .count) (l .loop .value) (l .loop .passed) (i .2 x f r b) (eqb-false _ _ (not-true _ so)) (c .loop-test .left)
+    let known = sym (c .before .before .before .digit-value .ensures) ∙ ap valueOf (c .before .enum-told .given .1) in
+    rw (c .grouped2 .ensures)
+    (λ so x f r b.
+    grouped-stops (a .separator) (a .radix) (a .s .now) x f r b (l .loop .at) (l .loop .count) (l .loop .value) (l .loop .passed) (i .2 x f r b) (eqb-false _ _ (not-true _ so)) (c .before .before .before .before .before .before .loop-test .taken) (c .before .before .before .before .if1 .left) (is-none _ (a .radix) known (omega arith)))
+
+grouped-requires-3 : tie.Need-grouped-requires-3 Inv-loop μ-loop
+grouped-requires-3 c κs = search needs
+
+returns-8 : tie.Need-returns-8 Inv-loop μ-loop
+returns-8 c =
+    let l = c .before .before in
+    let a = l .before .before .args in
+    let i = l .loop .inv in
+    rw (c .grouped3 .ensures) (λ so x f r b. grouped-out (a .separator) (a .radix) (a .s .now) x f r b (l .loop .at) (l .loop .count) (l .loop .value) (l .loop .passed) (i .2 x f r b) (eqb-false _ _ (not-true _ so)) (c .before .loop-test .left))
 
 pub grouped-run-spec : {M : Type 1} → statement M
 grouped-run-spec =
@@ -159,19 +184,25 @@ grouped-run-spec =
     shared-slice-read-c
     not-grouped-requires-3
     returns-3
-    char-is-digit-by-range-requires
+    char-is-digit-by-table-requires
     not-grouped-requires-4
     returns-4
     add-passed
     loop-less
     loop-again
-    char-is-digit-by-table-requires
+    digit-value-requires
+    enum-known-digit
+    grouped-requires
     returns-5
-    with-digit-requires
     not-grouped-requires-5
     returns-6
+    times-plus-requires
     add-count
     add-at
     loop-less-2
     loop-again-2
-    returns-7)
+    enum-told
+    grouped-requires-2
+    returns-7
+    grouped-requires-3
+    returns-8)
