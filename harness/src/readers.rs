@@ -9,6 +9,7 @@ pub mod draw;
 pub mod library;
 pub mod port;
 pub mod refusal;
+pub mod run;
 pub mod sets;
 pub mod table;
 mod values;

@@ -9,7 +9,8 @@ use crate::readers::table::View;
 use crate::word::{Field, Word};
 
 /// The calls so far. A zero skip stands in it as its reads, each a step with
-/// the call `SkipZeros` and an answer that has a byte or none.
+/// the call `SkipZeros` and an answer that has a byte or none; a digit run as its
+/// peeks and takes.
 pub struct History<'a> {
     word: Word,
     buffer: &'a [u8],

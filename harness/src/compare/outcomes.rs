@@ -43,6 +43,7 @@ const POSSIBLE: [&[Outcome]; Call::NAMES.len()] = [
     FROM_READING,
     FROM_READING,
     &[Refused, Took, DidNeither, GaveNoBlock],
+    &[Refused, TookAndPassed, Took],
 ];
 
 const FROM_READING: &[Outcome] = &[Refused, TookAndPassed, Took, Passed, DidNeither];

@@ -3,6 +3,7 @@
 use crate::group::Group;
 use crate::readers::answer::{Answer, Found};
 use crate::readers::call::{Call, Case};
+use crate::readers::run::Run;
 use crate::readers::{port, refusal};
 
 /// The port has no refusals, and only the calls that are timed.
@@ -17,6 +18,14 @@ pub fn compare(group: &mut Group, case: &Case, call: Call, expected: Answer) {
             ("Rust", expected),
         );
     }
+}
+
+/// The answer that a digit run is due for what it reads.
+pub fn digit_run(case: &Case) -> Answer {
+    let mut after = *case;
+    let mut run = Run::new(case.word);
+    port::digit_run(&mut after, |byte| run.take(byte));
+    run.answer(case.state, after.state)
 }
 
 fn answer(case: &Case, call: Call) -> Option<Answer> {
@@ -36,6 +45,7 @@ fn answer(case: &Case, call: Call) -> Option<Answer> {
             let found = Found::block(case.buffer, part);
             (found, part.map_or(0, <[u8]>::len))
         }
+        Call::DigitRun => return Some(digit_run(case)),
     };
     Some(Answer::new(case.state, found, taken, after.state))
 }

@@ -3,11 +3,12 @@
 
 use std::collections::BTreeMap;
 
+use super::ported;
 use crate::group::{Group, Report};
 use crate::readers::answer::{Answer, CountAnswer};
 use crate::readers::call::{ByteSet, Call, Case, State, COUNTED, READERS, SPECIAL};
 use crate::readers::refusal::{
-    ACCEPTED, CONSECUTIVE_INTEGER, COUNTS_EXCEED_THE_CURSOR, CURSOR_PAST_THE_END,
+    ACCEPTED, CONSECUTIVE_INTEGER, COUNTS_EXCEED_THE_CURSOR, CURSOR_PAST_THE_END, NO_DIGIT,
     SPECIAL_HAS_NO_SUCH_CALL, UNKNOWN_READER,
 };
 use crate::readers::sets::{C, ILTC};
@@ -15,7 +16,7 @@ use crate::readers::words::DECIMAL;
 use crate::readers::{library, refusal};
 use crate::word::{reader_flags, Word, SPECIAL_SEPARATOR};
 
-const NAMES: [(u32, &str); 8] = [
+const NAMES: [(u32, &str); 9] = [
     (ACCEPTED, "no refusal, where none is due"),
     (CONSECUTIVE_INTEGER, "12, consecutive alone, integer"),
     (13, "13, consecutive alone, fraction"),
@@ -24,9 +25,10 @@ const NAMES: [(u32, &str); 8] = [
     (COUNTS_EXCEED_THE_CURSOR, "17, counts exceed the cursor"),
     (
         SPECIAL_HAS_NO_SUCH_CALL,
-        "18, special reader, zero skip or block",
+        "18, special reader, zero skip, block or digit run",
     ),
     (UNKNOWN_READER, "19, reader byte above 3"),
+    (NO_DIGIT, "23, digit run without a digit"),
 ];
 
 pub const BUFFERS: [&[u8]; 5] = [b"", b"_", b"1", b"1_2", b"__1__"];
@@ -34,7 +36,7 @@ pub const BUFFERS: [&[u8]; 5] = [b"", b"_", b"1", b"1_2", b"__1__"];
 /// Some of these add up to a small number if the sum wraps.
 const COUNTS: [usize; 5] = [0, 1, 2, usize::MAX / 2 + 1, usize::MAX];
 
-pub const CALLS: [Call; 9] = [
+pub const CALLS: [Call; 10] = [
     Call::Peek,
     Call::Next,
     Call::NextAll,
@@ -44,6 +46,7 @@ pub const CALLS: [Call; 9] = [
     Call::TakeN(0),
     Call::TakeN(1),
     Call::TakeN(usize::MAX),
+    Call::DigitRun,
 ];
 
 type Groups = BTreeMap<u32, Group>;
@@ -119,8 +122,16 @@ pub fn cursors(buffer: &[u8]) -> impl Iterator<Item = usize> {
 
 fn compare_calls(groups: &mut Groups, case: &Case) {
     for call in CALLS {
-        let number = refusal::of_call(case, call);
+        let number = due(case, call);
         compare_answer(groups, case, call, number, library::call(case, call));
+    }
+}
+
+/// A digit run may also be refused for what it reads.
+fn due(case: &Case, call: Call) -> u32 {
+    match refusal::of_call(case, call) {
+        ACCEPTED if matches!(call, Call::DigitRun) => ported::digit_run(case).number,
+        number => number,
     }
 }
 

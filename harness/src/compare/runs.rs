@@ -13,10 +13,10 @@ const LONGEST: usize = 300;
 /// No byte, a digit that can be skipped too, another byte.
 const NEIGHBOURS: [&[u8]; 3] = [b"", b"0", b"x"];
 
-const CALLS: [Call; 3] = [Call::Peek, Call::Next, Call::SkipZeros];
+const CALLS: [Call; 4] = [Call::Peek, Call::Next, Call::SkipZeros, Call::DigitRun];
 
 pub fn run(report: &mut Report) {
-    let mut group = Group::new("readers, long runs, peek, next and skip_zeros");
+    let mut group = Group::new("readers, long runs, peek, next, skip_zeros and digit_run");
     let mut first = None;
     let decimal = compiled()
         .iter()

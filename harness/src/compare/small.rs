@@ -34,9 +34,11 @@ pub fn run(report: &mut Report, longest: usize) {
 }
 
 /// What is worth asking of a reader without flags, which passes nothing: the
-/// call that raises its count all the same, and the blocks that only it takes.
-const CALLS_WITHOUT_FLAGS: [Call; 6] = [
+/// call that raises its count all the same, the one that makes a value of digits
+/// that it does not count, and the blocks that only it takes.
+const CALLS_WITHOUT_FLAGS: [Call; 7] = [
     Call::SkipZeros,
+    Call::DigitRun,
     Call::TakeN(0),
     Call::TakeN(1),
     Call::TakeN(3),
@@ -93,7 +95,7 @@ fn letter(word: Word) -> u8 {
         .unwrap_or(b'x')
 }
 
-fn calls([digit, _, separator, letter, _]: [u8; 5]) -> [Call; 10] {
+fn calls([digit, _, separator, letter, _]: [u8; 5]) -> [Call; 11] {
     [
         Call::Peek,
         Call::Next,
@@ -105,6 +107,7 @@ fn calls([digit, _, separator, letter, _]: [u8; 5]) -> [Call; 10] {
         Call::ReadIfValueCased(digit),
         Call::ReadIfValueCased(letter),
         Call::SkipZeros,
+        Call::DigitRun,
     ]
 }
 

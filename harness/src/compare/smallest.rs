@@ -14,6 +14,7 @@ use super::comparison::Asked;
 use crate::group::Report;
 use crate::readers::call::Call;
 use crate::readers::refusal::ACCEPTED;
+use crate::script::has_record;
 use crate::word::oracle;
 
 /// Stands before the script's lines.
@@ -59,7 +60,7 @@ impl Smallest {
         let number = oracle::format_error(rust.word());
         let reason = match steps.last().map(|step| step.call) {
             _ if number != ACCEPTED => format!("an open refuses the word with {number}"),
-            Some(call @ (Call::NextAll | Call::ReadIf(_))) => {
+            Some(call) if !has_record(call) => {
                 format!("a script has no {}", Call::NAMES[call.kind()])
             }
             _ => "no list of calls that was tried comes to this state or prints it".to_string(),

@@ -9,7 +9,7 @@ use super::lists::{CALLS, LONGEST};
 use crate::group::{Group, Report};
 use crate::readers::answer::{Answer, Found};
 use crate::readers::call::{Call, State, Step};
-use crate::readers::compiled::Readers;
+use crate::readers::compiled::{Part, Readers};
 use crate::readers::draw;
 use crate::readers::refusal::ACCEPTED;
 use crate::readers::words::compiled;
@@ -52,6 +52,7 @@ struct Tally {
     runs: Group,
     counts: Group,
     zero_skips: Group,
+    digit_runs: Group,
     peeks: Group,
 }
 
@@ -64,45 +65,47 @@ impl Tally {
             runs: group("runs are separators, from where the rule holds"),
             counts: group("counts are those of the history"),
             zero_skips: group("zero skip is its reads"),
+            digit_runs: group("digit run is its peeks and takes"),
             peeks: group("peek put before a call changes nothing"),
         }
     }
 
     fn check(&mut self, list: &List) {
         let answers = list.rust.run(list.buffer, list.calls);
-        let reads = list.rust.run_by_reads(list.buffer, list.calls);
+        let parts = list.rust.run_by_parts(list.buffer, list.calls);
         let mut history = History::new(list.rust.word(), list.buffer);
         for (place, answer) in answers.iter().enumerate() {
-            self.check_zero_skip(list, place, answer, &reads[place]);
-            for read in &reads[place] {
-                self.check_run(list, place, read, &history);
-                history.add(list.calls[place], read);
-                self.check_sums(list, place, read, &history);
+            self.check_parts(list, place, answer, &parts[place]);
+            let reader = list.calls[place].reader;
+            for &(call, part) in &parts[place] {
+                self.check_run(list, place, &part, &history);
+                history.add(Step { reader, call }, &part);
+                self.check_sums(list, place, &part, &history);
             }
             self.check_peek(list, place, &answers);
         }
     }
 
-    /// Its number is how many zeros were read; the rest are sums.
-    fn check_zero_skip(&mut self, list: &List, place: usize, answer: &Answer, reads: &[Answer]) {
-        let is_zero_skip = matches!(list.calls[place].call, Call::SkipZeros);
-        if !is_zero_skip || answer.number != ACCEPTED {
-            return;
-        }
-        let zeros = reads.iter().map(|read| read.taken).sum();
-        let of_reads = Answer {
+    /// What a call took and passed is the sum over those that it stands for, and a
+    /// zero skip's number is how many zeros were read.
+    fn check_parts(&mut self, list: &List, place: usize, answer: &Answer, parts: &[Part]) {
+        let taken = parts.iter().map(|(_, part)| part.taken).sum();
+        let (group, found) = match list.calls[place].call {
+            _ if answer.number != ACCEPTED => return,
+            Call::SkipZeros => (&mut self.zero_skips, Found::zeros(taken)),
+            Call::DigitRun => (&mut self.digit_runs, answer.found),
+            _ => return,
+        };
+        let (_, last) = parts[parts.len() - 1];
+        let of_parts = Answer {
             number: ACCEPTED,
-            found: Found::zeros(zeros),
-            taken: zeros,
-            passed: reads.iter().map(|read| read.passed).sum(),
-            state: reads[reads.len() - 1].state,
+            found,
+            taken,
+            passed: parts.iter().map(|(_, part)| part.passed).sum(),
+            state: last.state,
             kept: true,
         };
-        self.zero_skips.agree(
-            &list.at(place),
-            ("skip_zeros", *answer),
-            ("reads", of_reads),
-        );
+        group.agree(&list.at(place), ("call", *answer), ("parts", of_parts));
     }
 
     /// What one call passes is one run, and begins behind the joined bytes.
@@ -169,6 +172,7 @@ impl Tally {
             self.runs,
             self.counts,
             self.zero_skips,
+            self.digit_runs,
             self.peeks,
         ];
         for group in groups {

@@ -23,10 +23,10 @@ pub struct Answer {
 /// What a call has found, as the first two numbers of its answer tell it.
 #[derive(Clone, Copy, PartialEq, Eq)]
 pub struct Found {
-    /// 1 where there is a byte or a block, else 0. A zero skip has neither.
+    /// 1 where there is a byte, a block or a value, else 0. A zero skip has none.
     pub is_there: u64,
-    /// The byte, where the block begins in the buffer, or how many zeros there
-    /// were.
+    /// The byte, where the block begins in the buffer, how many zeros there were,
+    /// or the value of a digit run.
     pub what: u64,
 }
 
@@ -81,7 +81,8 @@ impl Found {
         })
     }
 
-    fn there(what: u64) -> Self {
+    /// A byte, the place of a block or a value.
+    pub fn there(what: u64) -> Self {
         Self { is_there: 1, what }
     }
 }

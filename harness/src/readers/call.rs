@@ -32,6 +32,8 @@ pub enum Call {
     ReadIfValueCased(u8),
     SkipZeros,
     TakeN(usize),
+    /// Peeks and takes while the byte peeked is a digit, as one call.
+    DigitRun,
 }
 
 /// 256 bits, lowest first.
@@ -82,7 +84,7 @@ impl ByteSet {
 }
 
 impl Call {
-    pub const NAMES: [&'static str; 7] = [
+    pub const NAMES: [&'static str; 8] = [
         "peek",
         "next",
         "next_all",
@@ -90,6 +92,7 @@ impl Call {
         "read_if_value_cased",
         "skip_zeros",
         "take_n",
+        "digit_run",
     ];
 
     /// The place of this call's name.
@@ -102,6 +105,7 @@ impl Call {
             Self::ReadIfValueCased(_) => 4,
             Self::SkipZeros => 5,
             Self::TakeN(_) => 6,
+            Self::DigitRun => 7,
         }
     }
 }

@@ -5,6 +5,7 @@ use lexical_util_format::iterator::{Bytes, DigitsIter, Iter};
 
 use super::answer::Answer;
 use super::call::{Call, Case, State, Step, EXPONENT, FRACTION, INTEGER, SPECIAL};
+pub use super::walk::Part;
 use super::walk::{with_reader, Walk};
 use crate::word::Word;
 
@@ -19,8 +20,9 @@ pub trait Readers: Sync {
     /// Calls one after the other from a fresh state, by one `Bytes`.
     fn run(&self, buffer: &[u8], list: &[Step]) -> Vec<Answer>;
 
-    /// The same, with the answers of its reads for each zero skip.
-    fn run_by_reads(&self, buffer: &[u8], list: &[Step]) -> Vec<Vec<Answer>>;
+    /// The same, with the calls that each stands for: a zero skip for its reads, a
+    /// digit run for its peeks and takes, any other and a refused one for itself.
+    fn run_by_parts(&self, buffer: &[u8], list: &[Step]) -> Vec<Vec<Part>>;
 
     fn current_count(&self, case: &Case) -> usize;
     fn is_digit(&self, reader: u8, byte: u8) -> bool;
@@ -44,9 +46,9 @@ impl<const FORMAT: u128> Readers for Compiled<FORMAT> {
         list.iter().map(|&step| walk.step(step)).collect()
     }
 
-    fn run_by_reads(&self, buffer: &[u8], list: &[Step]) -> Vec<Vec<Answer>> {
+    fn run_by_parts(&self, buffer: &[u8], list: &[Step]) -> Vec<Vec<Part>> {
         let mut walk = Walk::<FORMAT>::at(buffer, State::default());
-        list.iter().map(|&step| walk.step_by_reads(step)).collect()
+        list.iter().map(|&step| walk.step_by_parts(step)).collect()
     }
 
     fn current_count(&self, case: &Case) -> usize {

@@ -78,7 +78,7 @@ pub fn state(rng: &mut Rng, buffer: &[u8]) -> State {
 }
 
 /// One call of each kind.
-pub fn calls(rng: &mut Rng, word: Word, buffer: &[u8]) -> [Call; 7] {
+pub fn calls(rng: &mut Rng, word: Word, buffer: &[u8]) -> [Call; 8] {
     [
         Call::Peek,
         Call::Next,
@@ -87,6 +87,7 @@ pub fn calls(rng: &mut Rng, word: Word, buffer: &[u8]) -> [Call; 7] {
         Call::ReadIfValueCased(value(rng, word, buffer)),
         Call::SkipZeros,
         Call::TakeN(block(rng, buffer)),
+        Call::DigitRun,
     ]
 }
 
@@ -107,11 +108,12 @@ pub fn list(rng: &mut Rng, word: Word, buffer: &[u8], length: usize) -> Vec<Step
 fn listed_call(rng: &mut Rng, word: Word, buffer: &[u8]) -> Call {
     match rng.below(100) {
         0..=14 => Call::Peek,
-        15..=44 => Call::Next,
-        45..=54 => Call::ReadIf(set(rng)),
-        55..=69 => Call::ReadIfValueCased(value(rng, word, buffer)),
-        70..=84 => Call::SkipZeros,
-        85..=98 => Call::TakeN(rng.below(4) as usize),
+        15..=39 => Call::Next,
+        40..=49 => Call::DigitRun,
+        50..=58 => Call::ReadIf(set(rng)),
+        59..=71 => Call::ReadIfValueCased(value(rng, word, buffer)),
+        72..=85 => Call::SkipZeros,
+        86..=98 => Call::TakeN(rng.below(4) as usize),
         _ => Call::TakeN(block(rng, buffer)),
     }
 }

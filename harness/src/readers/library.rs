@@ -44,6 +44,7 @@ pub fn ask(
             }
             Call::SkipZeros => pawhetino_skip_zeros(s, len, reader, state, answer),
             Call::TakeN(n) => pawhetino_take_n(s, len, reader, state, answer, n),
+            Call::DigitRun => pawhetino_digit_run(s, len, reader, state, answer),
         }
     }
 }

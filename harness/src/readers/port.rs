@@ -61,6 +61,17 @@ pub fn take_n<'a>(case: &mut Case<'a>, n: usize) -> Option<&'a [u8]> {
     })
 }
 
+/// Gives each byte that a digit run takes. The state is behind the run then, also
+/// where that is due a refusal.
+#[inline(always)]
+pub fn digit_run(case: &mut Case, mut take: impl FnMut(u8)) {
+    with_port(case, |port| {
+        while let Some(byte) = port.next_digit() {
+            take(byte);
+        }
+    })
+}
+
 /// The word's fields are read once for the whole column.
 pub fn next_all_column(column: &Column) -> Sums {
     let view = View::new(column.word, column.reader, &[]);
@@ -121,6 +132,15 @@ impl<'a> Port<'a> {
             self.count += 1;
         }
         Some(byte)
+    }
+
+    /// What the take behind a peek takes, where that found a digit.
+    fn next_digit(&mut self) -> Option<u8> {
+        let peeked = self.peek();
+        match self.view.is_digit(peeked) {
+            true => self.next(),
+            false => None,
+        }
     }
 
     fn read(&mut self, value: u8) -> Option<u8> {

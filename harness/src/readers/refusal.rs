@@ -11,8 +11,11 @@ pub const COUNTS_EXCEED_THE_CURSOR: u32 = 17;
 pub const SPECIAL_HAS_NO_SUCH_CALL: u32 = 18;
 pub const UNKNOWN_READER: u32 = 19;
 pub const UNKNOWN_EDITION: u32 = 19;
+pub const NO_DIGIT: u32 = 23;
+pub const ABOVE_64_BITS: u32 = 24;
 
-/// The first number that is due to a call, or 0.
+/// The first number that is due to a call, or 0. A digit run may also be refused
+/// for what it reads, see `run.rs`.
 pub fn of_call(case: &Case, call: Call) -> u32 {
     unknown_reader(case)
         .or_else(|| cursor_past_the_end(case))
@@ -51,7 +54,7 @@ fn counts_exceed_the_cursor(case: &Case) -> Option<u32> {
 }
 
 fn special_has_no_such_call(case: &Case, call: Call) -> Option<u32> {
-    let counted_readers_only = matches!(call, Call::SkipZeros | Call::TakeN(_));
+    let counted_readers_only = matches!(call, Call::SkipZeros | Call::TakeN(_) | Call::DigitRun);
     (case.reader == SPECIAL && counted_readers_only).then_some(SPECIAL_HAS_NO_SUCH_CALL)
 }
 

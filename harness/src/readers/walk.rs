@@ -7,6 +7,7 @@ use lexical_util_format::iterator::{Bytes, DigitsIter, Iter};
 use super::answer::{Answer, Found};
 use super::call::{Call, Case, State, Step, COUNTED, EXPONENT, FRACTION, INTEGER, SPECIAL};
 use super::refusal;
+use super::run::Run;
 use super::sets::NONE;
 use crate::word::{Field, Word};
 
@@ -36,7 +37,11 @@ macro_rules! with_reader {
 }
 pub(super) use with_reader;
 
+/// A call that another stands for in the byte tally, with its answer.
+pub type Part = (Call, Answer);
+
 /// The crate's `Bytes` on its way through a buffer.
+#[derive(Clone)]
 pub struct Walk<'a, const FORMAT: u128> {
     pub bytes: Bytes<'a, FORMAT>,
     /// The state of `bytes`, which does not show all of its counts.
@@ -65,12 +70,13 @@ impl<'a, const FORMAT: u128> Walk<'a, FORMAT> {
         }
     }
 
-    pub fn step_by_reads(&mut self, step: Step) -> Vec<Answer> {
-        let skips_zeros = matches!(step.call, Call::SkipZeros);
-        if skips_zeros && self.refusal(step) == refusal::ACCEPTED {
-            self.zero_reads(step.reader)
-        } else {
-            vec![self.step(step)]
+    pub fn step_by_parts(&mut self, step: Step) -> Vec<Part> {
+        let Step { reader, call } = step;
+        let accepted = self.clone().step(step).number == refusal::ACCEPTED;
+        match call {
+            Call::SkipZeros if accepted => self.zero_reads(reader),
+            Call::DigitRun if accepted => self.peeks_and_takes(reader),
+            _ => vec![(call, self.step(step))],
         }
     }
 
@@ -87,6 +93,7 @@ impl<'a, const FORMAT: u128> Walk<'a, FORMAT> {
     fn call(&mut self, Step { reader, call }: Step) -> Answer {
         let (found, taken) = match call {
             Call::TakeN(n) => self.take_n(reader, n),
+            Call::DigitRun => return self.digit_run(reader),
             _ => with_reader!(self.bytes, reader, |iter| ask(iter, call)),
         };
         let zeros = match call {
@@ -97,16 +104,51 @@ impl<'a, const FORMAT: u128> Walk<'a, FORMAT> {
     }
 
     /// The reads that a zero skip consists of, up to the first that fails.
-    fn zero_reads(&mut self, reader: u8) -> Vec<Answer> {
-        let mut answers = Vec::new();
+    fn zero_reads(&mut self, reader: u8) -> Vec<Part> {
+        let mut reads = Vec::new();
         loop {
             let byte = with_reader!(self.bytes, reader, |iter| read_zero(iter));
             let taken = usize::from(byte.is_some());
-            answers.push(self.answer(reader, Found::byte(byte), taken, taken));
+            let answer = self.answer(reader, Found::byte(byte), taken, taken);
+            reads.push((Call::SkipZeros, answer));
             if byte.is_none() {
-                return answers;
+                return reads;
             }
         }
+    }
+
+    /// A run that is refused leaves all as it was, its passing too.
+    fn digit_run(&mut self, reader: u8) -> Answer {
+        let before = self.clone();
+        let mut run = Run::new(Self::WORD);
+        with_reader!(self.bytes, reader, |iter| take_digits(iter, &mut run));
+        let after = self.answer(reader, Found::NOTHING, run.taken, 0).state;
+        let answer = run.answer(before.state, after);
+        if answer.number != refusal::ACCEPTED {
+            *self = before;
+        }
+        answer
+    }
+
+    /// What a digit run consists of, each a call of its own.
+    fn peeks_and_takes(&mut self, reader: u8) -> Vec<Part> {
+        let mut parts = Vec::new();
+        loop {
+            let peek = self.part(reader, Call::Peek);
+            parts.push(peek);
+            if !self.is_digit(peek.1.found) {
+                return parts;
+            }
+            parts.push(self.part(reader, Call::Next));
+        }
+    }
+
+    fn part(&mut self, reader: u8, call: Call) -> Part {
+        (call, self.call(Step { reader, call }))
+    }
+
+    fn is_digit(&mut self, found: Found) -> bool {
+        found.is_there == 1 && self.bytes.integer_iter().is_digit(found.what as u8)
     }
 
     /// In the crate the sum of `n` and the cursor can wrap, and what follows is
@@ -177,7 +219,7 @@ impl<'a, const FORMAT: u128> Walk<'a, FORMAT> {
 /// What the call finds, and how many bytes it took.
 fn ask<'a>(iter: &mut impl DigitsIter<'a>, call: Call) -> (Found, usize) {
     let byte = match call {
-        Call::Peek => return (Found::byte(iter.peek().copied()), 0),
+        Call::Peek => return (Found::byte(peek(iter)), 0),
         Call::NextAll => return (Found::NOTHING, next_all(iter)),
         Call::SkipZeros => {
             let zeros = iter.skip_zeros();
@@ -186,7 +228,7 @@ fn ask<'a>(iter: &mut impl DigitsIter<'a>, call: Call) -> (Found, usize) {
         Call::Next => next(iter),
         Call::ReadIf(set) => iter.read_if(|byte| set.contains(byte)),
         Call::ReadIfValueCased(value) => read(iter, value),
-        Call::TakeN(_) => panic!("not a call that all readers of the crate have"),
+        Call::TakeN(_) | Call::DigitRun => panic!("not a call of the crate's readers"),
     };
     (Found::byte(byte), usize::from(byte.is_some()))
 }
@@ -199,8 +241,21 @@ fn next_all<'a>(iter: &mut impl DigitsIter<'a>) -> usize {
     taken
 }
 
+/// Each step peeks, then takes from where the peek left the reader.
+fn take_digits<'a>(iter: &mut impl DigitsIter<'a>, run: &mut Run) {
+    while peek(iter).is_some_and(|byte| iter.is_digit(byte)) {
+        run.take(next(iter).expect("a byte behind a peek that found one"));
+    }
+}
+
 /// Never inlined: the crate's own is, and one copy of it for each reader and
 /// word is enough for the compiler.
+#[inline(never)]
+fn peek<'a>(iter: &mut impl DigitsIter<'a>) -> Option<u8> {
+    iter.peek().copied()
+}
+
+/// Never inlined, for the same reason.
 #[inline(never)]
 fn next<'a>(iter: &mut impl DigitsIter<'a>) -> Option<u8> {
     iter.next().copied()

@@ -63,7 +63,7 @@ impl Script {
             Call::ReadIfValueCased(value) => self.read(reader, value),
             Call::SkipZeros => self.zero_skip(reader),
             Call::TakeN(n) => self.block(reader, n as u32),
-            Call::NextAll | Call::ReadIf(_) => panic!("a script has no {call}"),
+            Call::NextAll | Call::ReadIf(_) | Call::DigitRun => panic!("a script has no {call}"),
         }
     }
 
@@ -91,14 +91,14 @@ pub fn kind(call: Call) -> u8 {
         Call::ReadIfValueCased(_) => READ,
         Call::SkipZeros => ZERO_SKIP,
         Call::TakeN(_) => BLOCK,
-        Call::NextAll | Call::ReadIf(_) => panic!("a script has no {call}"),
+        Call::NextAll | Call::ReadIf(_) | Call::DigitRun => panic!("a script has no {call}"),
     }
 }
 
 /// Whether a script can hold a call. A block's size has 32 bits there.
 pub fn has_record(call: Call) -> bool {
     match call {
-        Call::NextAll | Call::ReadIf(_) => false,
+        Call::NextAll | Call::ReadIf(_) | Call::DigitRun => false,
         Call::TakeN(n) => u32::try_from(n).is_ok(),
         _ => true,
     }

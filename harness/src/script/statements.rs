@@ -20,7 +20,7 @@ pub fn call(Step { reader, call }: Step) -> String {
         Call::ReadIfValueCased(value) => format!("read {reader} {}", byte(value)),
         Call::SkipZeros => format!("zeros {reader}"),
         Call::TakeN(n) => format!("block {reader} {n}"),
-        Call::NextAll | Call::ReadIf(_) => panic!("a script has no {call}"),
+        Call::NextAll | Call::ReadIf(_) | Call::DigitRun => panic!("a script has no {call}"),
     }
 }
 

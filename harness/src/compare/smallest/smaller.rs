@@ -138,7 +138,7 @@ fn simpler(input: &Input, call: Call) -> Vec<Call> {
             simpler.map(Call::ReadIfValueCased).collect()
         }
         Call::ReadIf(set) => smaller_sets(set).into_iter().map(Call::ReadIf).collect(),
-        Call::Peek | Call::Next | Call::NextAll | Call::SkipZeros => Vec::new(),
+        Call::Peek | Call::Next | Call::NextAll | Call::SkipZeros | Call::DigitRun => Vec::new(),
     }
 }
 

@@ -29,6 +29,7 @@ declare! {
     pawhetino_read_if_value_cased(value: u8);
     pawhetino_skip_zeros();
     pawhetino_take_n(n: usize);
+    pawhetino_digit_run();
 }
 
 declare! {

@@ -6,7 +6,7 @@ use crate::readers::call::{Case, State};
 /// kept as given, the edition.
 pub type RawState = [u64; 8];
 
-/// Whether there is a byte or a block, what was found, taken, passed.
+/// Whether there is a byte, a block or a value, what was found, taken, passed.
 pub type RawAnswer = [u64; 4];
 
 /// The only edition that there is.
