@@ -6,6 +6,7 @@ mod columns;
 mod comparison;
 mod counts;
 mod coverage;
+mod digit_runs;
 mod digits;
 mod editions;
 mod examples;
@@ -13,6 +14,7 @@ mod faults;
 mod fresh;
 mod history;
 mod is_digit;
+mod lent;
 mod lists;
 mod long;
 mod named_words;
@@ -33,7 +35,7 @@ pub use long::GROUPS as LONG_GROUPS;
 use crate::group::Groups;
 
 /// What the gate runs: words, then reader calls, the longest of these first.
-pub const GROUPS: [Groups; 20] = [
+pub const GROUPS: [Groups; 21] = [
     |report, _| named_words::run(report),
     |report, _| digits::run(report),
     checks::run,
@@ -46,6 +48,7 @@ pub const GROUPS: [Groups; 20] = [
     |report, _| runs::run(report),
     |report, seed| lists::run(report, seed, &lists::GATE),
     |report, seed| columns::run(report, seed, columns::COLUMNS),
+    |report, seed| digit_runs::run(report, seed, digit_runs::CASES),
     |report, _| examples::run(report),
     |report, _| written::run(report),
     |report, _| is_digit::run(report),

@@ -1,13 +1,12 @@
 //! States of an edition that there is none of. Every call refuses such a state
 //! before it asks anything else of it, and changes nothing.
 
-use std::fmt;
-
+use super::lent::Lent;
 use super::refusals::{consecutive_alone, cursors, BUFFERS, CALLS};
 use crate::group::{Group, Report};
-use crate::readers::answer::{CountAnswer, UNTOUCHED};
-use crate::readers::call::{Call, Case, State};
-use crate::readers::library::{self, RawAnswer, RawState, EDITION_AT};
+use crate::readers::answer::CountAnswer;
+use crate::readers::call::{Case, State};
+use crate::readers::library::{self, EDITION_AT};
 use crate::readers::refusal::UNKNOWN_EDITION;
 use crate::readers::words::DECIMAL;
 
@@ -16,14 +15,6 @@ pub const UNKNOWN: [u64; 5] = [1, 2, 1 << 8, 1 << 32, u64::MAX];
 
 /// None, some, and more than a number can hold.
 const COUNTS: [[usize; 3]; 3] = [[0; 3], [1, 0, 0], [usize::MAX, 1, 0]];
-
-/// What a call has written, and what it has left.
-#[derive(PartialEq)]
-struct Written {
-    number: u32,
-    state: RawState,
-    answer: RawAnswer,
-}
 
 pub fn run(report: &mut Report) {
     let mut group = Group::new("refusals, 19, unknown edition");
@@ -52,7 +43,11 @@ fn compare_editions(group: &mut Group, case: &Case) {
         let mut state = library::raw(case);
         state[EDITION_AT] = edition;
         for call in CALLS {
-            compare_call(group, case, call, state);
+            group.agree(
+                &format_args!("{call}, edition {edition}, {case}"),
+                ("library", Lent::to(call, case.buffer, case.reader, state)),
+                ("definition", Lent::refused(UNKNOWN_EDITION, state)),
+            );
         }
         let refused = CountAnswer {
             number: UNKNOWN_EDITION,
@@ -67,44 +62,5 @@ fn compare_editions(group: &mut Group, case: &Case) {
             ),
             ("definition", refused),
         );
-    }
-}
-
-fn compare_call(group: &mut Group, case: &Case, call: Call, before: RawState) {
-    let mut state = before;
-    let mut answer = library::UNWRITTEN;
-    let number = library::ask(call, case.buffer, case.reader, &mut state, &mut answer);
-    group.agree(
-        &format_args!("{call}, edition {}, {case}", before[EDITION_AT]),
-        (
-            "library",
-            Written {
-                number,
-                state,
-                answer,
-            },
-        ),
-        (
-            "definition",
-            Written {
-                number: UNKNOWN_EDITION,
-                state: before,
-                answer: [0, UNTOUCHED, 0, 0],
-            },
-        ),
-    );
-}
-
-impl fmt::Display for Written {
-    fn fmt(&self, out: &mut fmt::Formatter<'_>) -> fmt::Result {
-        let Self {
-            number,
-            state,
-            answer,
-        } = self;
-        write!(
-            out,
-            "(number {number}, state {state:X?}, answer {answer:X?})"
-        )
     }
 }

@@ -2,7 +2,7 @@
 //! through, with far more of them. Those that are drawn run in two halves, one
 //! for each of two cores.
 
-use super::{columns, coverage, faults, lists, random, runs, small, tally};
+use super::{columns, coverage, digit_runs, faults, lists, random, runs, small, tally};
 use crate::group::Groups;
 
 /// One byte more than in the gate.
@@ -36,7 +36,10 @@ const TALLIES: u32 = 2_000;
 /// For each reader of each word.
 const COLUMNS: u32 = 15_000;
 
-pub const GROUPS: [Groups; 10] = [
+/// Digit runs under words that are drawn.
+const RUNS: u32 = 40_000_000;
+
+pub const GROUPS: [Groups; 11] = [
     |report, _| small::run(report, LONGEST),
     |report, seed| random::run(report, seed, &ONE_HALF),
     |report, seed| random::run(report, seed, &OTHER_HALF),
@@ -44,6 +47,7 @@ pub const GROUPS: [Groups; 10] = [
     |report, seed| lists::run(report, seed, &OTHER_LISTS),
     |report, seed| tally::run(report, seed, TALLIES),
     |report, seed| columns::run(report, seed, COLUMNS),
+    |report, seed| digit_runs::run(report, seed, RUNS),
     |report, _| runs::run(report),
     |report, _| coverage::arising(report),
     faults::run,

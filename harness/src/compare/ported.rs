@@ -20,8 +20,12 @@ pub fn compare(group: &mut Group, case: &Case, call: Call, expected: Answer) {
     }
 }
 
-/// The answer that a digit run is due for what it reads.
+/// The answer that is due to a digit run, a refusal or what the port has read.
 pub fn digit_run(case: &Case) -> Answer {
+    let number = refusal::of_call(case, Call::DigitRun);
+    if number != refusal::ACCEPTED {
+        return Answer::refused(number, case.state);
+    }
     let mut after = *case;
     let mut run = Run::new(case.word);
     port::digit_run(&mut after, |byte| run.take(byte));

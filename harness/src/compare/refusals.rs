@@ -129,9 +129,9 @@ fn compare_calls(groups: &mut Groups, case: &Case) {
 
 /// A digit run may also be refused for what it reads.
 fn due(case: &Case, call: Call) -> u32 {
-    match refusal::of_call(case, call) {
-        ACCEPTED if matches!(call, Call::DigitRun) => ported::digit_run(case).number,
-        number => number,
+    match call {
+        Call::DigitRun => ported::digit_run(case).number,
+        _ => refusal::of_call(case, call),
     }
 }
 

@@ -61,6 +61,16 @@ fn digit(rng: &mut Rng, radix: u8, mixture: Mixture) -> u8 {
     }
 }
 
+/// Digits of the word with few separators, up to a length.
+pub fn digits(rng: &mut Rng, word: Word, longest: usize) -> Vec<u8> {
+    let length = rng.below(longest as u64 + 1);
+    let byte = |_| match rng.below(20) {
+        0 => word.field(Field::Separator),
+        _ => digit(rng, word.field(Field::MantissaRadix), ORDINARY),
+    };
+    (0..length).map(byte).collect()
+}
+
 /// Any cursor within the buffer, and counts that together do not exceed it.
 pub fn state(rng: &mut Rng, buffer: &[u8]) -> State {
     let cursor = rng.below(buffer.len() as u64 + 1) as usize;
