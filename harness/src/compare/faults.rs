@@ -4,10 +4,10 @@
 //! the seed.
 
 mod answers;
+mod runs;
 
 use std::fmt::Display;
 
-use self::answers::FAULTS;
 use super::comparison::{Asked, Comparison};
 use super::smallest::{Input, Smallest, AS_A_SCRIPT, NO_SCRIPT};
 use super::{lists, random};
@@ -45,7 +45,7 @@ enum Shown {
 
 pub fn run(report: &mut Report, seed: u64) {
     let mut group = Group::new("comparison itself, faults found and made small");
-    for fault in &FAULTS {
+    for fault in answers::FAULTS.iter().chain(&runs::FAULTS) {
         let by_call = first_of_calls(fault.asked, seed);
         check(&mut group, fault, "single calls", by_call);
         if let Shown::Script(_) = fault.shown {
