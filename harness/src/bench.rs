@@ -7,6 +7,7 @@ mod callgrind;
 mod cells;
 mod chart;
 mod column;
+mod digit_run;
 mod each_byte;
 mod full_check;
 pub mod growth;
@@ -49,6 +50,7 @@ pub fn run(seed: u64, chart: Option<&str>) -> ExitCode {
     times::print(&read::table(), seed, &mut findings);
     times::print(&skip_zeros::table(), seed, &mut findings);
     times::print(&take_n::table(), seed, &mut findings);
+    times::print(&digit_run::table(), seed, &mut findings);
     full_check::time(seed, &mut findings);
     instructions::print(seed);
     if !findings.agreed {

@@ -12,6 +12,6 @@ pub mod refusal;
 pub mod run;
 pub mod sets;
 pub mod table;
-mod values;
+pub mod values;
 mod walk;
 pub mod words;

@@ -53,6 +53,10 @@ impl Word {
         Self((hi as u128) << 64 | lo as u128)
     }
 
+    pub const fn from_bits(bits: u128) -> Self {
+        Self(bits)
+    }
+
     pub const fn bits(self) -> u128 {
         self.0
     }

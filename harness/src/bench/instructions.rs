@@ -6,7 +6,7 @@ use std::process::ExitCode;
 
 use super::sides::NAMES;
 use super::table::Row;
-use super::{byte_calls, callgrind, next_all};
+use super::{byte_calls, callgrind, digit_run, next_all};
 
 /// The command of this program that makes the passes.
 pub const COMMAND: &str = "count-passes";
@@ -27,6 +27,8 @@ fn for_each_row(seed: u64, visit: &mut dyn FnMut(&str, &Row)) {
     takes.for_each_row(seed, &mut |row| visit(takes.title, row));
     let peeks = byte_calls::peeks();
     peeks.for_each_row(seed, &mut |row| visit(peeks.title, row));
+    let runs = digit_run::table();
+    runs.for_each_row(seed, &mut |row| visit(runs.title, row));
 }
 
 /// Makes one pass of each side over the cells of each row, and nothing else.

@@ -44,29 +44,28 @@ pub fn table() -> Table<Singly<NextAll>> {
         title: "Take to the end, one call for each cell",
         short: "singly",
         unit: Unit::Byte,
-        rows: vec![
-            ordinary("`1_204`", "1_204", &[ILT]),
-            ordinary("`12_00`", "12_00", &[]),
-            ordinary("`123456`", "123456", &[ILT]),
-            Rows {
-                charted: &[I, ILT, ILTC],
-                ..mixed(Singly(NextAll))
-            },
-        ],
+        rows: ordinary(|| NextAll),
     }
 }
 
-fn ordinary(
-    name: &'static str,
-    kind: &'static str,
-    charted: &'static [u32],
-) -> Rows<Singly<NextAll>> {
-    Rows {
+/// The rows of work that is done on ordinary cells singly.
+pub fn ordinary<W>(work: impl Fn() -> W) -> Vec<Rows<Singly<W>>> {
+    let cells: [(_, _, &[u32]); 3] = [
+        ("`1_204`", "1_204", &[ILT]),
+        ("`12_00`", "12_00", &[]),
+        ("`123456`", "123456", &[ILT]),
+    ];
+    let of_a_kind = cells.map(|(name, kind, charted)| Rows {
         name,
         kinds: vec![kind.into()],
         charted,
-        ..mixed(Singly(NextAll))
-    }
+        ..mixed(Singly(work()))
+    });
+    let of_all = Rows {
+        charted: &[I, ILT, ILTC],
+        ..mixed(Singly(work()))
+    };
+    of_a_kind.into_iter().chain([of_all]).collect()
 }
 
 /// The cells that are taken singly and as a column.

@@ -7,7 +7,12 @@ static VALUES: [u8; 256] = values();
 
 /// Whether a byte is a digit of a radix.
 pub fn is_digit(byte: u8, radix: u8) -> bool {
-    VALUES[usize::from(byte)] < radix
+    value_of(byte) < radix
+}
+
+/// More than any digit's where the byte is none.
+pub fn value_of(byte: u8) -> u8 {
+    VALUES[usize::from(byte)]
 }
 
 const fn values() -> [u8; 256] {

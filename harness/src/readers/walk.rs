@@ -49,7 +49,7 @@ pub struct Walk<'a, const FORMAT: u128> {
 }
 
 impl<'a, const FORMAT: u128> Walk<'a, FORMAT> {
-    pub const WORD: Word = Word::from_halves(FORMAT as u64, (FORMAT >> 64) as u64);
+    pub const WORD: Word = Word::from_bits(FORMAT);
 
     pub fn at(buffer: &'a [u8], state: State) -> Self {
         assert!(state.cursor <= buffer.len(), "a cursor within the buffer");
