@@ -9,7 +9,10 @@
 //! `answer` likewise: whether there is a byte or block (1 for a zero skip), the
 //! byte or the number of zeros (0 where there is neither), cursor, passed, the
 //! three counts, taken. For the part of a block it is instead the part's length
-//! and then its bytes, the last byte lowest.
+//! and then its bytes, the last byte lowest; for the value of a digit run that
+//! whole number, and 0 where the run is refused. A digit run itself has the lowest
+//! byte of its value in place of a byte; where it is refused, its answer begins with
+//! 2 and the refusal's number.
 //!
 //! `buffer` has its first byte lowest.
 
@@ -28,6 +31,9 @@ const LONGEST: usize = 8;
 const TELLING: usize = 48;
 const OTHERS: usize = 32;
 
+/// Where a byte would be there or not.
+const REFUSED: u64 = 2;
+
 #[derive(Clone, Copy)]
 enum Kind {
     Peek = 0,
@@ -37,9 +43,11 @@ enum Kind {
     SkipZeros = 4,
     TakeN = 5,
     TakeNPart = 6,
+    DigitRun = 7,
+    DigitRunValue = 8,
 }
 
-const KINDS: [Kind; 7] = [
+const KINDS: [Kind; 9] = [
     Kind::Peek,
     Kind::Next,
     Kind::ReadIfValueCased,
@@ -47,6 +55,8 @@ const KINDS: [Kind; 7] = [
     Kind::SkipZeros,
     Kind::TakeN,
     Kind::TakeNPart,
+    Kind::DigitRun,
+    Kind::DigitRunValue,
 ];
 
 pub fn write(out: &mut impl Write, seed: u64) -> io::Result<()> {
@@ -95,8 +105,8 @@ impl Kind {
     /// The readers that have such a call.
     fn readers(self) -> &'static [u8] {
         match self {
-            Self::SkipZeros | Self::TakeN | Self::TakeNPart => &COUNTED,
-            _ => &READERS,
+            Self::Peek | Self::Next | Self::ReadIfValueCased | Self::NextAll => &READERS,
+            _ => &COUNTED,
         }
     }
 
@@ -117,15 +127,18 @@ impl Kind {
             Self::NextAll => Call::NextAll,
             Self::SkipZeros => Call::SkipZeros,
             Self::TakeN | Self::TakeNPart => Call::TakeN(value.into()),
+            Self::DigitRun | Self::DigitRunValue => Call::DigitRun,
         }
     }
 
-    /// Separators were passed, and zeros skipped if that was asked for; or there
-    /// is a block with something in it.
+    /// Separators were passed, and zeros skipped if that was asked for; there is a
+    /// block with something in it; or a value that one byte does not hold.
     fn is_telling(self, answer: &Answer) -> bool {
+        let found = answer.found;
         match self {
             Self::SkipZeros => answer.passed > 0 && answer.taken > 0,
             Self::TakeN | Self::TakeNPart => answer.taken > 0,
+            Self::DigitRunValue => answer.number == ACCEPTED && found.what > 0xFF,
             _ => answer.passed > 0,
         }
     }
@@ -137,8 +150,11 @@ impl Kind {
             Self::TakeN => packed_answer(answer, found.is_there, 0),
             Self::TakeNPart if found.is_there == 0 => packed_part(&[]),
             Self::TakeNPart => packed_part(&case.buffer[found.what as usize..][..answer.taken]),
+            Self::DigitRunValue if found.is_there == 0 => 0,
+            Self::DigitRunValue => found.what,
+            _ if answer.number != ACCEPTED => packed_answer(answer, REFUSED, answer.number.into()),
             _ if found.is_there == 0 => packed_answer(answer, 0, 0),
-            _ => packed_answer(answer, 1, found.what),
+            _ => packed_answer(answer, 1, found.what & 0xFF),
         }
     }
 }
