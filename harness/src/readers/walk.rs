@@ -2,6 +2,10 @@
 
 #![allow(unsafe_code)]
 
+mod parts;
+
+pub use self::parts::Part;
+
 use lexical_util_format::iterator::{Bytes, DigitsIter, Iter};
 
 use super::answer::{Answer, Found};
@@ -37,9 +41,6 @@ macro_rules! with_reader {
 }
 pub(super) use with_reader;
 
-/// A call that another stands for in the byte tally, with its answer.
-pub type Part = (Call, Answer);
-
 /// The crate's `Bytes` on its way through a buffer.
 #[derive(Clone)]
 pub struct Walk<'a, const FORMAT: u128> {
@@ -70,16 +71,6 @@ impl<'a, const FORMAT: u128> Walk<'a, FORMAT> {
         }
     }
 
-    pub fn step_by_parts(&mut self, step: Step) -> Vec<Part> {
-        let Step { reader, call } = step;
-        let accepted = self.clone().step(step).number == refusal::ACCEPTED;
-        match call {
-            Call::SkipZeros if accepted => self.zero_reads(reader),
-            Call::DigitRun if accepted => self.peeks_and_takes(reader),
-            _ => vec![(call, self.step(step))],
-        }
-    }
-
     fn refusal(&self, Step { reader, call }: Step) -> u32 {
         let case = Case {
             word: Self::WORD,
@@ -103,20 +94,6 @@ impl<'a, const FORMAT: u128> Walk<'a, FORMAT> {
         self.answer(reader, found, taken, zeros)
     }
 
-    /// The reads that a zero skip consists of, up to the first that fails.
-    fn zero_reads(&mut self, reader: u8) -> Vec<Part> {
-        let mut reads = Vec::new();
-        loop {
-            let byte = with_reader!(self.bytes, reader, |iter| read_zero(iter));
-            let taken = usize::from(byte.is_some());
-            let answer = self.answer(reader, Found::byte(byte), taken, taken);
-            reads.push((Call::SkipZeros, answer));
-            if byte.is_none() {
-                return reads;
-            }
-        }
-    }
-
     /// A run that is refused leaves all as it was, its passing too.
     fn digit_run(&mut self, reader: u8) -> Answer {
         let before = self.clone();
@@ -128,27 +105,6 @@ impl<'a, const FORMAT: u128> Walk<'a, FORMAT> {
             *self = before;
         }
         answer
-    }
-
-    /// What a digit run consists of, each a call of its own.
-    fn peeks_and_takes(&mut self, reader: u8) -> Vec<Part> {
-        let mut parts = Vec::new();
-        loop {
-            let peek = self.part(reader, Call::Peek);
-            parts.push(peek);
-            if !self.is_digit(peek.1.found) {
-                return parts;
-            }
-            parts.push(self.part(reader, Call::Next));
-        }
-    }
-
-    fn part(&mut self, reader: u8, call: Call) -> Part {
-        (call, self.call(Step { reader, call }))
-    }
-
-    fn is_digit(&mut self, found: Found) -> bool {
-        found.is_there == 1 && self.bytes.integer_iter().is_digit(found.what as u8)
     }
 
     /// In the crate the sum of `n` and the cursor can wrap, and what follows is
@@ -228,7 +184,9 @@ fn ask<'a>(iter: &mut impl DigitsIter<'a>, call: Call) -> (Found, usize) {
         Call::Next => next(iter),
         Call::ReadIf(set) => iter.read_if(|byte| set.contains(byte)),
         Call::ReadIfValueCased(value) => read(iter, value),
-        Call::TakeN(_) | Call::DigitRun => panic!("not a call of the crate's readers"),
+        Call::TakeN(_) | Call::DigitRun => {
+            panic!("not a call that all readers of the crate have")
+        }
     };
     (Found::byte(byte), usize::from(byte.is_some()))
 }
@@ -265,13 +223,4 @@ fn next<'a>(iter: &mut impl DigitsIter<'a>) -> Option<u8> {
 #[inline(never)]
 fn read<'a>(iter: &mut impl DigitsIter<'a>, value: u8) -> Option<u8> {
     iter.read_if_value_cased(value)
-}
-
-/// One turn of the loop in the crate's `skip_zeros`.
-fn read_zero<'a>(iter: &mut impl DigitsIter<'a>) -> Option<u8> {
-    let byte = read(iter, b'0');
-    if byte.is_some() {
-        iter.increment_count();
-    }
-    byte
 }
