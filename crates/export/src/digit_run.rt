@@ -1,8 +1,8 @@
-// Digit runs. Most cells are read from a fresh state, begin with a digit, and each of their separators stands right before one: such cells
-// go by numbers, and nothing is asked of the rule table.
+// Digit runs. Most cells are read from a fresh state in a radix of figures alone, begin with a digit, and each of their separators stands
+// right before one: such cells go by numbers, and nothing is asked of the rule table.
 ghost use mathlib.Core.Path.{_≡_};
 ghost use mathlib.Core.Bool.{true, false, not};
-ghost use Prim.Native.Nat.{_+_, _*_, _<_};
+ghost use Prim.Native.Nat.{_+_, _*_, _-_, _<_, _≤_};
 ghost use lib.Dec.{eqb};
 ghost use Rattle.cells.specs.DigitRun.{runOutcomeOf};
 ghost use Rattle.export.specs.State.{stateWords};
@@ -23,9 +23,7 @@ use cells::digit_run::Number;
 use cells::digit_run::RunAnswer;
 use cells::digit_run::digit_run;
 use reader::state::Named;
-use word::digit::DigitValue;
-use word::digit::char_is_digit_by_table;
-use word::digit::digit_value;
+use word::digit::char_is_digit_by_range;
 use word::format_flags::Format;
 
 fn of_run(answer: RunAnswer, old: u64) -> Reply
@@ -115,12 +113,14 @@ fn not_grouped() -> GroupedRun
     }
 }
 
-// It is one if it has a digit.
-fn grouped(at: usize, value: u64, count: usize, passed: usize) -> GroupedRun
-    ensures { λ r. ⌜ r ≡ record { «is_so» = not (eqb count 0); at = at; value = value; count = count; passed = passed } ⌝ }
+// It is one if it has a digit: what was gone over and not passed was taken.
+fn grouped(at: usize, value: u64, passed: usize) -> GroupedRun
+    requires { ⌜ passed ≤ at ⌝ }
+    ensures { λ r. ⌜ r ≡ record { «is_so» = not (eqb at 0); at = at; value = value; count = at - passed; passed = passed } ⌝ }
 {
+    let count = at - passed;
     GroupedRun {
-        is_so: count != 0,
+        is_so: at != 0,
         at,
         value,
         count,
@@ -131,19 +131,21 @@ fn grouped(at: usize, value: u64, count: usize, passed: usize) -> GroupedRun
 // Below this no digit of any radix takes a value above 64 bits.
 const SMALL: u64 = 72057594037927936;
 
-fn times_plus(value: u64, radix: u8, digit: u8) -> u64
-    requires { ⌜ value < 72057594037927936 ⌝ }
-    ensures { λ r. ⌜ r ≡ value * radix + digit ⌝ }
+// The value with a figure behind it.
+fn with_figure(value: u64, radix: u8, b: u8) -> u64
+    requires { ⌜ (value < 72057594037927936) × (48 ≤ b) ⌝ }
+    ensures { λ r. ⌜ r ≡ value * radix + (b - 48) ⌝ }
 {
-    value * wide(radix) + wide(digit)
+    value * wide(radix) + wide(b - 48)
 }
 
+// The digits of a cell whose radix has no letters.
 fn grouped_run(s: &[u8], separator: u8, radix: u8) -> GroupedRun
+    requires { ⌜ radix ≤ 10 ⌝ }
     ensures { λ p. ⌜ (p .«is_so» ≡ true → Run separator radix (now (s .entry)) (p .at) (p .value) (p .count) (p .passed)) ⌝ }
 {
     let mut at: usize = 0;
     let mut value: u64 = 0;
-    let mut count: usize = 0;
     let mut passed: usize = 0;
     while at < s.len() {
         let b = s[at];
@@ -152,39 +154,30 @@ fn grouped_run(s: &[u8], separator: u8, radix: u8) -> GroupedRun
             if s.len() <= n {
                 return not_grouped();
             }
-            if count == 0 {
+            if at == 0 {
                 return not_grouped();
             }
             let c = s[n];
             if c == separator {
                 return not_grouped();
             }
-            if !char_is_digit_by_table(c, radix) {
+            if !char_is_digit_by_range(c, radix) {
                 return not_grouped();
             }
             passed += 1;
             at = n;
             continue;
         }
-        let digit = digit_value(b);
-        match digit {
-            DigitValue::Value(d) => {
-                if radix <= d {
-                    return grouped(at, value, count, passed);
-                }
-                if SMALL <= value {
-                    return not_grouped();
-                }
-                value = times_plus(value, radix, d);
-                count += 1;
-                at += 1;
-            }
-            DigitValue::NoValue => {
-                return grouped(at, value, count, passed);
-            }
+        if !char_is_digit_by_range(b, radix) {
+            return grouped(at, value, passed);
         }
+        if SMALL <= value {
+            return not_grouped();
+        }
+        value = with_figure(value, radix, b);
+        at += 1;
     }
-    grouped(at, value, count, passed)
+    grouped(at, value, passed)
 }
 
 // Takes the digits under the cursor, until a peek sees another byte or the end: their exact value.
@@ -220,7 +213,11 @@ pub extern "C" fn pawhetino_digit_run(
     if !has_internal(format, reader) {
         return digit_run_any(&s[..], reader, &mut *state, &mut *answer);
     }
-    let grouped = grouped_run(s, separator, radix_of(format));
+    let radix = radix_of(format);
+    if 10 < radix {
+        return digit_run_any(&s[..], reader, &mut *state, &mut *answer);
+    }
+    let grouped = grouped_run(s, separator, radix);
     if !grouped.is_so {
         return digit_run_any(&s[..], reader, &mut *state, &mut *answer);
     }

@@ -1,16 +1,16 @@
 -- The loop over the digits of a grouped cell has the numbers of a digit run: for `grouped_run`. Assumes nothing.
 use mathlib.Core.Path.{_≡_, _∙_, refl, sym, ap}
-use mathlib.Core.Bool.{Bool, true, false, cond, not, _&&_}
+use mathlib.Core.Bool.{Bool, true, false, cond, not, _&&_, and-eq-true-iff}
 use mathlib.Core.List.{List, [], _∷_}
 use mathlib.Core.Option.{some, none}
-use Prim.Native.Nat.{ℕ, _+_, _*_, _-_, _<_, _≤_, _^_}
+use Prim.Native.Nat.{ℕ, _+_, _*_, _-_, _<_, _≤_, _^_, min}
 use native.Mathlib.Nat.{add-zero}
 use native.Mathlib.Omega.{arith}
-use lib.Dec.{leb, eqb}
+use lib.Dec.{leb, ltb, eqb}
 use lib.ListN.{length, getD}
-use borrow.Author.Tests.{le-leb, ne-eqb, lt-ltb, le-ltb}
+use borrow.Author.Tests.{le-leb, leb-true, ltb-true, ne-eqb}
 use Rattle.word.specs.declared.format_flags.Format.{Format}
-use Rattle.word.specs.Digit.{digitValue, isDigit}
+use Rattle.word.specs.Digit.{among, below, digitValue, isDigit}
 use Rattle.word.specs.Check.{line, firstFailing}
 use Rattle.reader.specs.declared.state.Reader.{Reader}
 use Rattle.reader.specs.declared.state.State.{State}
@@ -23,6 +23,7 @@ use Rattle.reader.specs.ZeroSkip.{skipRefusal}
 use Rattle.reader.proofs.passing.Places.{byte-here, no-separator}
 use Rattle.reader.proofs.passing.Landings.{stays-on-other}
 use Rattle.reader.proofs.state.Updates.{stateAt, fresh-count}
+use Rattle.cells.specs.Value.{withDigit}
 use Rattle.cells.specs.DigitRun.{RunOutcome, seesDigit, digitRunOf}
 use Rattle.cells.specs.Code.Steps.{Ends, endedRun}
 use Rattle.cells.proofs.digit_run.Answers.{plain-taken, plain-over, end-over}
@@ -31,18 +32,26 @@ use Rattle.cells.proofs.digit_run.PassedAhead.{running-past}
 use Rattle.export.specs.Code.GroupedCell.{Between}
 use Rattle.export.proofs.DigitBehind.{lands-between}
 
--- a byte by its value
-pub is-digit : (c d radix : ℕ) → digitValue c ≡ some d → d < radix → isDigit c radix ≡ true
-unfolding isDigit
-is-digit c d radix known low = rw known (lt-ltb d radix low)
+-- a digit of a radix without letters is a figure
+figure-value : (c radix : ℕ) → radix ≤ 10 → isDigit c radix ≡ true → (48 ≤ c) × (digitValue c ≡ some (c - 48))
+unfolding isDigit digitValue
+figure-value c radix small = go (among 48 57 c) (among 65 90 c) (among 97 122 c) refl refl refl where
+  from : among 48 57 c ≡ true → 48 ≤ c
+  from e = leb-true 48 c (and-eq-true-iff (leb 48 c) (leb c 57) .0 e .0)
 
-pub is-above : (c d radix : ℕ) → digitValue c ≡ some d → radix ≤ d → isDigit c radix ≡ false
-unfolding isDigit
-is-above c d radix known high = rw known (le-ltb d radix high)
+  not-below : (n : ℕ) → 10 ≤ n → ltb n radix ≡ true → ⊥
+  not-below n high h = omega (arith, ltb-true n radix h)
 
-pub is-none : (c radix : ℕ) → digitValue c ≡ none → radix < 256 → isDigit c radix ≡ false
-unfolding isDigit
-is-none c radix known small = rw known (le-ltb 255 radix (omega arith))
+  go : (t u v : Bool) → among 48 57 c ≡ t → among 65 90 c ≡ u → among 97 122 c ≡ v
+      → below (cond t (some (c - 48)) (cond u (some (c - 65 + 10)) (cond v (some (c - 97 + 10)) none))) radix ≡ true
+      → (48 ≤ c) × (cond t (some (c - 48)) (cond u (some (c - 65 + 10)) (cond v (some (c - 97 + 10)) none)) ≡ some (c - 48))
+  go true u v e f g h = (from e, refl)
+  go false true v e f g h = absurd (not-below (c - 65 + 10) (omega arith) h)
+  go false false true e f g h = absurd (not-below (c - 97 + 10) (omega arith) h)
+  go false false false e f g h = absurd (not-below 255 (omega arith) h)
+
+pub figure-from : (c radix : ℕ) → radix ≤ 10 → isDigit c radix ≡ true → 48 ≤ c
+figure-from c radix small digit = figure-value c radix small digit .0
 
 module _ (separator radix : ℕ) (s : List ℕ) (x : Syntax) (f : Format) (r : Reader) (b : Between x separator radix r) where
   -- a run from a fresh state is not refused to such a reader
@@ -61,44 +70,51 @@ module _ (separator radix : ℕ) (s : List ℕ) (x : Syntax) (f : Format) (r : R
   pub grouped-starts : Running x s r (freshOf f) 0 0 0 0 0 false
   grouped-starts = rw (sym (fresh-count f r)) at (running-starts x s r (freshOf f) clear)
 
-  module _ (at count value passed : ℕ) (here : Running x s r (freshOf f) at count value count passed false) where
+  -- the digits are what was gone over and not passed
+  module _ (at value passed : ℕ) (few : min at 1 + passed ≤ at) (here : Running x s r (freshOf f) at (at - passed) value (at - passed) passed false) where
+    abbrev count : ℕ
+    count = at - passed
+
     -- a digit
-    pub grouped-digit : at < length s → (getD s at 0 ≡ separator → ⊥) → (d : ℕ) → digitValue (getD s at 0) ≡ some d → d < radix
-        → (v : ℕ) → v ≡ value * radix + d → v < 2 ^ 64
-        → Running x s r (freshOf f) (at + 1) (count + 1) v (count + 1) passed false
-    grouped-digit inside differ d known low v worth small =
-        let digit = is-digit (getD s at 0) d radix known low in
+    pub grouped-digit : at < length s → (getD s at 0 ≡ separator → ⊥) → radix ≤ 10 → isDigit (getD s at 0) radix ≡ true
+        → (v : ℕ) → v ≡ value * radix + (getD s at 0 - 48) → v < 2 ^ 64
+        → Running x s r (freshOf f) (at + 1) (at + 1 - passed) v (at + 1 - passed) passed false
+    grouped-digit inside differ figures digit v worth small =
         let nothing = passes-none (eqb count 0) at inside differ in
         let counts : count + 1 ≡ cond (hasAnyFlag (x .flags)) (count + 1) count = rw (b .internal) in
+        let one-more : count + 1 ≡ at + 1 - passed = omega (arith, few) in
         let took = plain-taken x s r (freshOf f) at count (here .stands) inside nothing (rw (b .own-radix) digit) (count + 1) counts in
-        let on = running-on x s r (freshOf f) clear at count value count passed false here (getD s at 0) (at + 1) (count + 1) 0 took v (rw (known, b .own-radix) worth) small in
-        rw (add-zero passed) at (unknown x s r (freshOf f) (at + 1) (count + 1) v (count + 1) (passed + 0) _ on)
+        let grown : v ≡ withDigit (x .radix) value (digitValue (getD s at 0)) = rw (figure-value (getD s at 0) radix figures digit .1, b .own-radix) worth in
+        let on = running-on x s r (freshOf f) clear at count value count passed false here (getD s at 0) (at + 1) (count + 1) 0 took v grown small in
+        rw (one-more, add-zero passed) at (unknown x s r (freshOf f) (at + 1) (count + 1) v (count + 1) (passed + 0) _ on)
 
     -- a separator right before a digit
     pub grouped-passes : at < length s → getD s at 0 ≡ separator → at + 1 < length s → (getD s (at + 1) 0 ≡ separator → ⊥)
-        → isDigit (getD s (at + 1) 0) radix ≡ true → (count ≡ 0 → ⊥)
-        → Running x s r (freshOf f) (at + 1) count value count (passed + 1) false
+        → isDigit (getD s (at + 1) 0) radix ≡ true → (at ≡ 0 → ⊥)
+        → Running x s r (freshOf f) (at + 1) (at + 1 - (passed + 1)) value (at + 1 - (passed + 1)) (passed + 1) false
     unfolding readingWith
-    grouped-passes inside equal more differ digit some-counted =
+    grouped-passes inside equal more differ digit begun =
         let own = b .own-separator in
         let lands = lands-between x s at inside (rw own (b .positive)) (rw own equal) more (rw own differ) (rw (b .own-radix) digit) (b .internal) in
         let nothing = passes-none (eqb count 0) (at + 1) more differ in
         let sees : seesDigit (readingWith x) (byteAt s (at + 1)) ≡ true = rw (byte-here s (at + 1) more, b .own-radix) digit in
         let one : passed + (at + 1 - at) ≡ passed + 1 = omega arith in
-        rw one at (running-past x s r (freshOf f) at count value count passed here (at + 1) (rw (ne-eqb count 0 some-counted) lands) sees nothing)
+        let same : count ≡ at + 1 - (passed + 1) = omega arith in
+        let counted : eqb count 0 ≡ false = ne-eqb count 0 (λ z. begun (omega (arith, z, few))) in
+        rw (one, same) at (running-past x s r (freshOf f) at count value count passed here (at + 1) (rw counted lands) sees nothing)
 
     -- another byte, or the end
-    ends : (count ≡ 0 → ⊥) → Ends (readingWith x) s r (freshOf f) at count at 0
+    ends : (at ≡ 0 → ⊥) → Ends (readingWith x) s r (freshOf f) at count at 0
         → record { refusal = 0; value = some value; taken = count; passed = passed; state = stateAt (freshOf f) r at count } ≡ digitRunOf x s (freshOf f) r
-    ends some-counted last =
-        rw (ne-eqb count 0 some-counted, add-zero passed) at (running-over x s r (freshOf f) clear at count value count passed false here at 0 last)
+    ends begun last =
+        let counted : eqb count 0 ≡ false = ne-eqb count 0 (λ z. begun (omega (arith, z, few))) in
+        rw (counted, add-zero passed) at (running-over x s r (freshOf f) clear at count value count passed false here at 0 last)
 
-    pub grouped-stops : (count ≡ 0 → ⊥) → at < length s → (getD s at 0 ≡ separator → ⊥) → isDigit (getD s at 0) radix ≡ false
+    pub grouped-stops : (at ≡ 0 → ⊥) → at < length s → (getD s at 0 ≡ separator → ⊥) → isDigit (getD s at 0) radix ≡ false
         → record { refusal = 0; value = some value; taken = count; passed = passed; state = stateAt (freshOf f) r at count } ≡ digitRunOf x s (freshOf f) r
-    grouped-stops some-counted inside differ other =
-        let nothing = passes-none (eqb count 0) at inside differ in
-        ends some-counted (plain-over x s r (freshOf f) at count (here .stands) inside nothing (rw (b .own-radix) other))
+    grouped-stops begun inside differ other =
+        ends begun (plain-over x s r (freshOf f) at count (here .stands) inside (passes-none (eqb count 0) at inside differ) (rw (b .own-radix) other))
 
-    pub grouped-out : (count ≡ 0 → ⊥) → length s ≤ at
+    pub grouped-out : (at ≡ 0 → ⊥) → length s ≤ at
         → record { refusal = 0; value = some value; taken = count; passed = passed; state = stateAt (freshOf f) r at count } ≡ digitRunOf x s (freshOf f) r
-    grouped-out some-counted out = ends some-counted (end-over x s r (freshOf f) at count (here .stands) out)
+    grouped-out begun out = ends begun (end-over x s r (freshOf f) at count (here .stands) out)

@@ -73,14 +73,20 @@ returns-4 c = search needs
 radix-of-requires : tie.Need-radix-of-requires
 radix-of-requires c κs = search needs
 
-grouped-run-requires : tie.Need-grouped-run-requires
-grouped-run-requires c κs = search needs
-
 digit-run-any-requires-5 : tie.Need-digit-run-any-requires-5
 digit-run-any-requires-5 c κs = search needs
 
 returns-5 : tie.Need-returns-5
 returns-5 c = search needs
+
+grouped-run-requires : tie.Need-grouped-run-requires
+grouped-run-requires c κs = omega (arith, c .if5 .left)
+
+digit-run-any-requires-6 : tie.Need-digit-run-any-requires-6
+digit-run-any-requires-6 c κs = search needs
+
+returns-6 : tie.Need-returns-6
+returns-6 c = search needs
 
 own-requires : tie.Need-own-requires
 own-requires c κs = search needs
@@ -94,22 +100,22 @@ own-requires-3 c κs = search needs
 element-copy-out-kept : tie.Need-element-copy-out-kept
 element-copy-out-kept c = search needs
 
-returns-6 : tie.Need-returns-6
-returns-6 c =
-    let a = c .before .before .before .before .before .before .before .before .before .before .before .before .before .before .before .before .before .before .before .before .before .before .before .before .args in
+returns-7 : tie.Need-returns-7
+returns-7 c =
+    let a = c .before .before .before .before .before .before .before .before .before .before .before .before .before .before .before .before .before .before .before .before .before .before .before .before .before .args in
     let w = a .state .now in
     let other = ltb 2 (a .reader) in
     let moved = not (eqb (getD w 2 0) 0) in
     let edition = not (eqb (getD w 7 0) 0) in
-    let t1 : ((other || moved) || edition) ≡ false = c .before .before .before .before .before .before .before .before .before .before .before .before .before .before .before .before .before .before .before .before .if1 .left in
+    let t1 : ((other || moved) || edition) ≡ false = c .before .before .before .before .before .before .before .before .before .before .before .before .before .before .before .before .before .before .before .before .before .if1 .left in
     let n3 = not (eqb (getD w 3 0) 0) in
     let n4 = not (eqb (getD w 4 0) 0) in
     let n5 = not (eqb (getD w 5 0) 0) in
-    let t2 : ((n3 || n4) || n5) ≡ false = c .before .before .before .before .before .before .before .before .before .before .before .before .before .before .before .before .if2 .left in
-    let separator = c .before .before .before .before .before .before .before .before .before .before .before .before .before .digit-separator in
-    let internal = c .before .before .before .before .before .before .before .before .before .before .before .has-internal in
+    let t2 : ((n3 || n4) || n5) ≡ false = c .before .before .before .before .before .before .before .before .before .before .before .before .before .before .before .before .before .if2 .left in
+    let separator = c .before .before .before .before .before .before .before .before .before .before .before .before .before .before .digit-separator in
+    let internal = c .before .before .before .before .before .before .before .before .before .before .before .before .has-internal in
     let grouped = c .before .before .before .before .before .before .before .before .grouped-run in
-    let run = grouped .ensures (not-false _ (c .before .before .before .before .before .before .if5 .left)) in
+    let run = grouped .ensures (not-false _ (c .before .before .before .before .before .before .if6 .left)) in
     rw (c .before .before .before .before .before .own .ensures, c .before .before .before .before .own2 .ensures, c .before .before .before .own3 .ensures)
     (run-written (a .reader) w (a .s .now)
     (ltb-false 2 (a .reader) (left-fails other moved (left-fails (other || moved) edition t1)))
@@ -119,9 +125,9 @@ returns-6 c =
     (is-zero (getD w 4 0) (right-fails n3 n4 (left-fails (n3 || n4) n5 t2)))
     (is-zero (getD w 5 0) (right-fails (n3 || n4) n5 t2))
     (grouped .result .at) (grouped .result .value) (grouped .result .count) (grouped .result .passed)
-    (rw (sym (separator .ensures)) (omega (arith, c .before .before .before .before .before .before .before .before .before .before .before .before .if3 .left)))
-    (sym (internal .ensures) ∙ not-false _ (c .before .before .before .before .before .before .before .before .before .before .if4 .left))
-    (rw (separator .ensures, c .before .before .before .before .before .before .before .before .before .radix-of .ensures) at run)
+    (rw (sym (separator .ensures)) (omega (arith, c .before .before .before .before .before .before .before .before .before .before .before .before .before .if3 .left)))
+    (sym (internal .ensures) ∙ not-false _ (c .before .before .before .before .before .before .before .before .before .before .before .if4 .left))
+    (rw (separator .ensures, c .before .before .before .before .before .before .before .before .before .before .radix-of .ensures) at run)
     (a .answer .now))
 
 pub pawhetino-digit-run-spec : {M : Type 1} → statement M
@@ -146,11 +152,13 @@ pawhetino-digit-run-spec =
     digit-run-any-requires-4
     returns-4
     radix-of-requires
-    grouped-run-requires
     digit-run-any-requires-5
     returns-5
+    grouped-run-requires
+    digit-run-any-requires-6
+    returns-6
     own-requires
     own-requires-2
     own-requires-3
     element-copy-out-kept
-    returns-6)
+    returns-7)
