@@ -10,15 +10,17 @@ use Rattle.reader.specs.declared.state.Reader.{Reader}
 use Rattle.reader.specs.declared.state.State.{State}
 use Rattle.reader.specs.State.{readerNamed}
 use Rattle.reader.specs.Answer.{Outcome, SkipOutcome, BlockOutcome}
-use Rattle.reader.specs.Reading.{Reading, readingFor}
+use Rattle.reader.specs.Reading.{syntaxFor, readingFor}
 use Rattle.reader.specs.Calls.{peekOf, nextOf, readIfOf, nextAllOf}
 use Rattle.reader.specs.ZeroSkip.{skipZerosOf}
 use Rattle.reader.specs.Block.{takeNOf, takeNPart}
+use Rattle.cells.specs.DigitRun.{RunOutcome, digitRunOf}
 use Rattle.vectors.specs.declared.call.Repeated.{Repeated}
 use Rattle.vectors.specs.declared.call.Repeated.the-variants.{Packed, NoCall}
 use Rattle.vectors.specs.Packed.{byteOf, withByte, lowByteBehind, allBehind}
 
--- An answer's first two bytes: 1 and the byte or how many zeros, 0 and 0 where there is none, 2 and a refusal's number.
+-- An answer's first two bytes: 1 and the byte, how many zeros or the value's lowest byte, 0 and 0 where there is none, 2 and a
+-- refusal's number.
 abbrev pub valueOrNone : Option ℕ → ℕ
 valueOrNone none = 0
 valueOrNone (some n) = lowByteBehind 1 n
@@ -45,6 +47,17 @@ packedSkip o = withState (orRefused (o .refusal) (valueOrNone (o .zeros))) (o .s
 abbrev pub packedBlock : BlockOutcome → ℕ
 packedBlock o = withState (orRefused (o .refusal) (blockOrNone (o .block))) (o .state) (o .taken) (o .passed)
 
+abbrev pub packedRun : RunOutcome → ℕ
+packedRun o = withState (orRefused (o .refusal) (valueOrNone (o .value))) (o .state) (o .taken) (o .passed)
+
+-- a run's value: the whole number, and 0 where the run is refused, which the run's own answer tells from a value of 0
+abbrev pub valueOrZero : Option ℕ → ℕ
+valueOrZero none = 0
+valueOrZero (some v) = v
+
+abbrev pub packedValue : RunOutcome → ℕ
+packedValue o = valueOrZero (o .value)
+
 -- a block's part: its length, then its bytes
 unfoldable pub bytesBehind : ℕ → List ℕ → ℕ
 bytesBehind packed [] = packed
@@ -53,17 +66,20 @@ bytesBehind packed (b ∷ rest) = bytesBehind (withByte packed b) rest
 abbrev pub packedPart : List ℕ → ℕ
 packedPart part = bytesBehind (length part) part
 
--- by the call's kind: 0 peek, 1 take, 2 read of one value, 3 takes to the end, 4 zero skip, 5 block take, 6 the part of a block
-unfoldable pub answerTo : ℕ → Reading → List ℕ → State → Reader → ℕ → Repeated
-answerTo kind m s st r value =
-    cond (eqb kind 0) (Packed (packedOutcome (peekOf m s st r)))
-    (cond (eqb kind 1) (Packed (packedOutcome (nextOf m s st r)))
-    (cond (eqb kind 2) (Packed (packedOutcome (readIfOf m s st r (λ b. eqb b value))))
-    (cond (eqb kind 3) (Packed (packedOutcome (nextAllOf m s st r)))
-    (cond (eqb kind 4) (Packed (packedSkip (skipZerosOf m s st r)))
-    (cond (eqb kind 5) (Packed (packedBlock (takeNOf m s st r value)))
-    (cond (eqb kind 6) (Packed (packedPart (takeNPart m s st r value)))
-    NoCall))))))
+-- by the call's kind: 0 peek, 1 take, 2 read of one value, 3 takes to the end, 4 zero skip, 5 block take, 6 the part of a block, 7 digit
+-- run, 8 the value of a digit run; the word is the state's
+unfoldable pub answerTo : ℕ → List ℕ → State → Reader → ℕ → Repeated
+answerTo kind s st r value =
+    cond (eqb kind 0) (Packed (packedOutcome (peekOf (readingFor st r) s st r)))
+    (cond (eqb kind 1) (Packed (packedOutcome (nextOf (readingFor st r) s st r)))
+    (cond (eqb kind 2) (Packed (packedOutcome (readIfOf (readingFor st r) s st r (λ b. eqb b value))))
+    (cond (eqb kind 3) (Packed (packedOutcome (nextAllOf (readingFor st r) s st r)))
+    (cond (eqb kind 4) (Packed (packedSkip (skipZerosOf (readingFor st r) s st r)))
+    (cond (eqb kind 5) (Packed (packedBlock (takeNOf (readingFor st r) s st r value)))
+    (cond (eqb kind 6) (Packed (packedPart (takeNPart (readingFor st r) s st r value)))
+    (cond (eqb kind 7) (Packed (packedRun (digitRunOf (syntaxFor st r) s st r)))
+    (cond (eqb kind 8) (Packed (packedValue (digitRunOf (syntaxFor st r) s st r)))
+    NoCall))))))))
 
 -- The buffer: up to eight bytes, the first one lowest.
 unfoldable pub bufferOf : ℕ → List ℕ
@@ -89,7 +105,7 @@ byReader (some r) answer = answer r
 
 abbrev pub askedOf : ℕ → Format → ℕ → Reader → Repeated
 askedOf what f bytes r =
-    answerTo (byteOf what 0) (readingFor (stateOf what f) r) (take (byteOf what 2) (bufferOf bytes)) (stateOf what f) r (byteOf what 7)
+    answerTo (byteOf what 0) (take (byteOf what 2) (bufferOf bytes)) (stateOf what f) r (byteOf what 7)
 
 unfoldable pub repeatedOf : ℕ → Format → ℕ → Repeated
 repeatedOf what f bytes =

@@ -48,7 +48,7 @@ digitVerdict r =
     (verdict Digit (value r 2) (cond (isDigit (value r 0) (value r 1)) 1 0))
     NoRecord
 
--- `R what lo hi bytes answer`, of 16 digits each: the answer beside that of the reader's definitions to the same call
+-- `R what lo hi bytes answer`, of 16 digits each: the answer beside that of the definitions to the same call
 abbrev pub beside : ℕ → Repeated → Verdict
 beside recorded (Packed answered) = verdict Call recorded answered
 beside recorded NoCall = NoRecord

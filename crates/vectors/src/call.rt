@@ -2,12 +2,16 @@
 ghost use mathlib.Core.Path.{_≡_};
 ghost use Rattle.reader.specs.Answer.{seenNumber, seenByte, readNumber, readByte, skipNumber, skipZeros, blockNumber, blockBytes};
 ghost use Rattle.reader.specs.Answer.{outcomeOf, readOutcomeOf, skipOutcomeOf, blockOutcomeOf};
-ghost use Rattle.reader.specs.Reading.{readingFor};
-ghost use Rattle.vectors.specs.Call.{orRefused, valueOrNone, blockOrNone, withState, packedOutcome, packedSkip, packedBlock, packedPart};
+ghost use Rattle.cells.specs.DigitRun.{runNumber, runValue, runOutcomeOf};
+ghost use Rattle.vectors.specs.Call.{orRefused, valueOrNone, blockOrNone, withState};
+ghost use Rattle.vectors.specs.Call.{packedOutcome, packedSkip, packedBlock, packedPart, packedRun, packedValue};
 ghost use Rattle.vectors.specs.Call.{bufferOf, stateOf, answerTo, repeatedOf};
 use crate::packed::byte_of;
 use crate::packed::pushed;
 use crate::packed::with_byte;
+use cells::digit_run::Number;
+use cells::digit_run::RunAnswer;
+use cells::digit_run::digit_run;
 use reader::iterator::Read;
 use reader::iterator::ReadAnswer;
 use reader::iterator::SkipAnswer;
@@ -35,9 +39,9 @@ use word::format_flags::Format;
 // The most bytes of a recorded buffer.
 const MOST: usize = 8;
 
-// What a call answered, packed as the record has it: whether there was a byte or a block (1 for a zero skip, 2 where the call was
-// refused), the byte or how many zeros (the refusal's number), the cursor, what was passed, the three counts, and what was taken.
-// Of a block's part instead its length and its bytes, the last one lowest.
+// What a call answered, packed as the record has it: whether there was a byte or a block (1 for a zero skip or a digit run, 2 where the
+// call was refused), the byte, how many zeros or the value's lowest byte (the refusal's number), the cursor, what was passed, the three
+// counts, and what was taken. Of a block's part instead its length and its bytes, the last one lowest; of a run's value that number.
 pub enum Repeated {
     Packed(u64),
     NoCall,
@@ -118,6 +122,17 @@ fn first_of_block(block: Block, taken: usize) -> u64
     }
 }
 
+fn first_of_run(number: Number) -> u64
+    ensures { λ r. ⌜ r ≡ orRefused (runNumber number) (valueOrNone (runValue number)) ⌝ }
+{
+    match number {
+        Number::Value(value) => pushed(1, value as usize),
+        Number::NoDigit => pushed(2, 23),
+        Number::AboveWidth => pushed(2, 24),
+        Number::Refused(refusal) => pushed(2, refusal.number() as usize),
+    }
+}
+
 fn pack(a: Answer) -> u64
     ensures { λ r. ⌜ r ≡ packedOutcome (outcomeOf a) ⌝ }
 {
@@ -155,6 +170,28 @@ fn pack_block(a: BlockAnswer) -> u64
     )
 }
 
+fn pack_run(a: RunAnswer) -> u64
+    ensures { λ r. ⌜ r ≡ packedRun (runOutcomeOf a) ⌝ }
+{
+    let report = a.report;
+    let number = report.number;
+    packed_state(first_of_run(number), a.state, report.taken, report.passed)
+}
+
+// The whole value of a run, and 0 where it is refused.
+fn pack_value(a: RunAnswer) -> u64
+    ensures { λ r. ⌜ r ≡ packedValue (runOutcomeOf a) ⌝ }
+{
+    let report = a.report;
+    let number = report.number;
+    match number {
+        Number::Value(value) => value,
+        Number::NoDigit => 0,
+        Number::AboveWidth => 0,
+        Number::Refused(_) => 0,
+    }
+}
+
 // Of a part of eight bytes the length is shifted out.
 fn pack_part(part: &[u8]) -> u64
     ensures { λ r. ⌜ r ≡ packedPart (now (part .entry)) ⌝ }
@@ -169,9 +206,9 @@ fn pack_part(part: &[u8]) -> u64
 }
 
 // The packed answer to a call, by its kind: 0 peek, 1 take, 2 read of one value, 3 takes to the end, 4 zero skip, 5 block take, 6 the
-// part that a block is.
+// part that a block is, 7 digit run, 8 the value of a digit run.
 fn answer_to(kind: u8, s: &[u8], state: State, who: Reader, value: u8) -> Repeated
-    ensures { λ r. ⌜ r ≡ answerTo kind (readingFor state who) (now (s .entry)) state who value ⌝ }
+    ensures { λ r. ⌜ r ≡ answerTo kind (now (s .entry)) state who value ⌝ }
 {
     match kind {
         0 => Repeated::Packed(pack(peek(s, state, who).answer())),
@@ -181,6 +218,8 @@ fn answer_to(kind: u8, s: &[u8], state: State, who: Reader, value: u8) -> Repeat
         4 => Repeated::Packed(pack_skip(skip_zeros(s, state, who))),
         5 => Repeated::Packed(pack_block(take_n(s, state, who, value as usize))),
         6 => Repeated::Packed(pack_part(take_n_part(s, state, who, value as usize))),
+        7 => Repeated::Packed(pack_run(digit_run(s, state, who))),
+        8 => Repeated::Packed(pack_value(digit_run(s, state, who))),
         _ => Repeated::NoCall,
     }
 }

@@ -11,7 +11,6 @@ use Rattle.reader.specs.declared.state.Named.{Named}
 use Rattle.reader.specs.declared.state.Named.the-variants.{Known, Unknown}
 use Rattle.reader.specs.declared.state.State.{State}
 use Rattle.reader.specs.State.{readerNamed, namedReader}
-use Rattle.reader.specs.Reading.{readingFor}
 use Rattle.vectors.specs.declared.call.Repeated.{Repeated}
 use Rattle.vectors.specs.declared.call.Repeated.the-variants.{NoCall}
 use Rattle.vectors.specs.Packed.{byteOf}
@@ -31,7 +30,7 @@ module _ (what bytes : ℕ) (f : Format) (buffer : List ℕ) (end : ℕ) (is : b
 
   pub same-call : (r : Reader) (answer : Repeated) (kind value : ℕ) (st : State)
       → kind ≡ byteOf what 0 → value ≡ byteOf what 7 → st ≡ stateOf what f
-      → answer ≡ answerTo kind (readingFor st r) (take (end - 0) buffer) st r value → answer ≡ askedOf what f bytes r
+      → answer ≡ answerTo kind (take (end - 0) buffer) st r value → answer ≡ askedOf what f bytes r
   unfolding stateOf
   same-call r answer kind value st k v s known =
       let whole : end - 0 ≡ end = omega arith in known ∙ rw (k, v, s, whole, is, to)

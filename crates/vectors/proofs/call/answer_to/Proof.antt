@@ -2,7 +2,7 @@
 use mathlib.Core.Path.{_∙_, ap}
 use borrow.Author.Tests.{ne-eqb}
 use Rattle.vectors.specs.declared.call.Repeated.the-variants.{Packed}
-use Rattle.vectors.specs.Call.{packedOutcome, packedSkip, packedBlock, packedPart, answerTo}
+use Rattle.vectors.specs.Call.{packedOutcome, packedSkip, packedBlock, packedPart, packedRun, packedValue, answerTo}
 use borrow.Author.Needs.{needs}
 use Rattle.vectors.proofs.call.answer_to.Statement.{statement}
 use Rattle.vectors.proofs.call.answer_to.Tie as tie
@@ -52,6 +52,18 @@ take-n-part-requires c κs = search needs
 pack-part-requires : tie.Need-pack-part-requires
 pack-part-requires c κs = search needs
 
+digit-run-requires : tie.Need-digit-run-requires
+digit-run-requires c κs = search needs
+
+pack-run-requires : tie.Need-pack-run-requires
+pack-run-requires c κs = search needs
+
+digit-run-requires-2 : tie.Need-digit-run-requires-2
+digit-run-requires-2 c κs = search needs
+
+pack-value-requires : tie.Need-pack-value-requires
+pack-value-requires c κs = search needs
+
 returns : tie.Need-returns
 unfolding answerTo
 returns c =
@@ -84,9 +96,19 @@ returns-7 c = rw (c .before .before .match .keys7) (ap Packed (c .pack-part .ens
 
 returns-8 : tie.Need-returns-8
 unfolding answerTo
-returns-8 c =
+returns-8 c = rw (c .before .before .match .keys8) (ap Packed (c .pack-run .ensures ∙ ap packedRun (c .before .digit-run .ensures)))
+
+returns-9 : tie.Need-returns-9
+unfolding answerTo
+returns-9 c = rw (c .before .before .match .keys9) (ap Packed (c .pack-value .ensures ∙ ap packedValue (c .before .digit-run2 .ensures)))
+
+returns-10 : tie.Need-returns-10
+unfolding answerTo
+returns-10 c =
     let rest = c .match .rest in
     rw (
+      ne-eqb _ _ (rest .0 .0 .0 .0 .0 .0 .0 .0 .1),
+      ne-eqb _ _ (rest .0 .0 .0 .0 .0 .0 .0 .1),
       ne-eqb _ _ (rest .0 .0 .0 .0 .0 .0 .1),
       ne-eqb _ _ (rest .0 .0 .0 .0 .0 .1),
       ne-eqb _ _ (rest .0 .0 .0 .0 .1),
@@ -115,6 +137,10 @@ answer-to-spec =
     pack-block-requires
     take-n-part-requires
     pack-part-requires
+    digit-run-requires
+    pack-run-requires
+    digit-run-requires-2
+    pack-value-requires
     returns
     returns-2
     returns-3
@@ -122,4 +148,6 @@ answer-to-spec =
     returns-5
     returns-6
     returns-7
-    returns-8)
+    returns-8
+    returns-9
+    returns-10)
