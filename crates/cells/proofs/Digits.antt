@@ -1,36 +1,101 @@
--- What a digit run takes: digits only, by every word; and of a run that reaches the end of a cell, the cell's bytes that are no separators.
--- For later numbers from cells. Assumes nothing.
+-- What a digit run takes: digits only, by every word. Assumes nothing.
 use mathlib.Core.Path.{_≡_, _∙_, refl, sym, ap}
-use mathlib.Core.Bool.{Bool, true, false, cond, not, _&&_}
-use mathlib.Core.List.{List, [], _∷_, _++_, append-nil, head?}
+use mathlib.Core.Bool.{Bool, true, false, cond, false≢true}
+use mathlib.Core.List.{List, [], _∷_, _++_}
 use mathlib.Core.Option.{Option, some, none}
-use Prim.Native.Nat.{ℕ, zero, suc, _+_, _≤_, _<_}
-use native.Mathlib.Nat.{add-zero}
-use native.Mathlib.Numerals.{add-one}
+use Prim.Native.Nat.{ℕ, zero, suc, _+_}
 use native.Mathlib.Omega.{arith}
 use borrow.Author.Tests.{eqb-true}
 use lib.Dec.{eqb}
-use lib.ListN.{length, take, drop, replicate, getD}
+use lib.ListN.{length}
 use Rattle.word.specs.Digit.{isDigit}
-use Rattle.reader.specs.declared.rule.Flags.{Flags}
-use Rattle.reader.specs.declared.rule.Neighbour.{Neighbour}
 use Rattle.reader.specs.declared.state.Reader.{Reader}
 use Rattle.reader.specs.declared.state.State.{State}
 use Rattle.reader.specs.declared.passing.Syntax.{Syntax}
-use Rattle.reader.specs.Rule.{ruleOf, first, later}
-use Rattle.reader.specs.Place.{isSeparator, byteAt, before, after, nearest, separatorRun, firstOther}
-use Rattle.reader.specs.Reading.{Reading, readingWith, neighbourOf, previous, following, mayPass, passedAt}
+use Rattle.reader.specs.Place.{byteAt}
+use Rattle.reader.specs.Reading.{Reading, readingWith, passedAt}
 use Rattle.reader.specs.State.{countOf, movedTo}
-use Rattle.reader.specs.Answer.{Outcome}
-use Rattle.reader.specs.Calls.{refusalWith, peeked, peekOf, takeByte, nextOf}
+use Rattle.reader.specs.Calls.{refusalOf, peeked, peekOf, takeByte, nextOf}
 use Rattle.reader.specs.History.{byteTaken}
-use Rattle.reader.proofs.passing.Places.{byte-here, byte-inside, none-there, before-next, run-byte}
-use Rattle.reader.proofs.passing.Passed.{PassesHere, passes-here, passes-none, passes-one, passes-run, separator-is, other-differs}
-use Rattle.cells.specs.DigitRun.{Digits, seesDigit, digitsFrom}
+use Rattle.reader.proofs.passing.Passed.{passed-fits}
+use Rattle.reader.proofs.state.Refusals.{within, still-admitted, peek-admitted, turned-away}
+use Rattle.reader.proofs.state.Updates.{count-moved}
+use Rattle.cells.specs.DigitRun.{seesDigit, digitsFrom}
+use Rattle.cells.proofs.TwicePassed.{digit-behind}
 
--- TWICE IN A ROW: a peek may leave its cursor at a separator that is itself a digit, and the take behind it then passes that one too. It
--- does so only without the consecutive flag, and only in front of a digit.
+-- a test holds of every member
+abbrev pub Every : (ℕ → Bool) → List ℕ → Type 0
+Every test [] = Unit {0}
+Every test (b ∷ rest) = (test b ≡ true) × Every test rest
 
--- a neighbour that is a separator and a digit
-abbrev digitSeparator : Neighbour
-digitSeparator = record { exists = true; digit = true; separator = true }
+module _ (x : Syntax) (s : List ℕ) (r : Reader) where
+  abbrev m : Reading
+  m = readingWith x
+
+  module _ (st : State) where
+    abbrev isFirst : Bool
+    isFirst = eqb (countOf st r) 0
+
+    abbrev place : ℕ
+    place = st .cursor + passedAt m s isFirst (st .cursor)
+
+    -- the byte of a take is that of its peek
+    take-shows : nextOf m s st r .byte ≡ peekOf m s st r .byte
+    unfolding nextOf
+    take-shows = go (peekOf m s st r .byte) refl where
+      go : (o : Option ℕ) → peekOf m s st r .byte ≡ o → takeByte m r (peekOf m s st r) o .byte ≡ o
+      go none e = e
+      go (some b) e = refl
+
+    peek-shows : refusalOf m s st r ≡ 0 → peekOf m s st r .byte ≡ byteAt s place
+    unfolding peeked
+    peek-shows clear = rw (peek-admitted m s st r clear)
+
+    peek-leaves : refusalOf m s st r ≡ 0 → peekOf m s st r .state ≡ movedTo st place
+    unfolding peeked
+    peek-leaves clear = rw (peek-admitted m s st r clear)
+
+  -- the take from the state that a peek left
+  next-shows : (st : State) → refusalOf m s st r ≡ 0
+      → nextOf m s (movedTo st (place st)) r .byte ≡ byteAt s (place st + passedAt m s (isFirst st) (place st))
+  unfolding movedTo
+  next-shows st clear =
+      let w = within (m .flags) s st r clear in
+      let fits = passed-fits m s (isFirst st) (st .cursor) (w .0) in
+      let still = still-admitted (m .flags) s st (movedTo st (place st)) r fits (omega (arith, w .1)) clear in
+      take-shows (movedTo st (place st)) ∙ peek-shows (movedTo st (place st)) still ∙ rw (count-moved st (place st) r)
+
+  -- behind a peek that saw a digit a digit is taken
+  taken-here : (st : State) → refusalOf m s st r ≡ 0 → seesDigit m (peekOf m s st r .byte) ≡ true
+      → (c : ℕ) → nextOf m s (peekOf m s st r .state) r .byte ≡ some c → m .digit c ≡ true
+  taken-here st clear sees c took =
+      go (byteAt s (place st)) refl (rw (peek-shows st clear) at sees) where
+        took-there : byteAt s (place st + passedAt m s (isFirst st) (place st)) ≡ some c
+        took-there = sym (next-shows st clear) ∙ rw (peek-leaves st clear) at took
+
+        go : (o : Option ℕ) → byteAt s (place st) ≡ o → seesDigit m o ≡ true → m .digit c ≡ true
+        go none e h = absurd (false≢true h)
+        go (some b) e h = digit-behind x s (isFirst st) (st .cursor) b e h c took-there
+
+  pub digit-taken : (st : State) → seesDigit m (peekOf m s st r .byte) ≡ true
+      → (c : ℕ) → nextOf m s (peekOf m s st r .state) r .byte ≡ some c → m .digit c ≡ true
+  digit-taken st sees c took = go (eqb (refusalOf m s st r) 0) refl where
+    go : (t : Bool) → eqb (refusalOf m s st r) 0 ≡ t → m .digit c ≡ true
+    go true t = taken-here st (eqb-true (refusalOf m s st r) 0 t) sees c took
+    go false t = absurd (false≢true (rw (turned-away m s st r t) at sees))
+
+  pub digits-are-digits : (n : ℕ) (st : State) → Every (λ b. isDigit b (x .radix)) (digitsFrom n m s r st .digits)
+  unfolding digitsFrom readingWith
+  digits-are-digits zero st = tt
+  digits-are-digits (suc n) st = go (seesDigit m (peekOf m s st r .byte)) refl (digits-are-digits n (nextOf m s (peekOf m s st r .state) r .state)) where
+    joined : (rest : List ℕ) (o : Option ℕ) → ((c : ℕ) → o ≡ some c → isDigit c (x .radix) ≡ true) → Every (λ b. isDigit b (x .radix)) rest
+        → Every (λ b. isDigit b (x .radix)) (byteTaken o ++ rest)
+    joined rest none one all = all
+    joined rest (some c) one all = (one c refl, all)
+
+    go :
+        (t : Bool) → seesDigit m (peekOf m s st r .byte) ≡ t
+        → Every (λ b. isDigit b (x .radix)) (digitsFrom n m s r (nextOf m s (peekOf m s st r .state) r .state) .digits)
+        → Every (λ b. isDigit b (x .radix)) (digitsFrom (suc n) m s r st .digits)
+    go false e rest = rw e tt
+    go true e rest = rw e (joined _ (nextOf m s (peekOf m s st r .state) r .byte) (digit-taken st e) rest)

@@ -1,4 +1,8 @@
--- Read in this order: the rooms value and digit_run, each beside the proofs of its module's functions; Demand1. Booleans is for several
--- rooms.
+-- Read in this order: the rooms value and digit_run, each beside the proofs of its module's functions; Digits over TwicePassed, and
+-- WholeCells, what a run takes; Demand1 and Demand3. Booleans is for several rooms.
 mod Booleans
+mod TwicePassed
+pub mod Digits
+pub mod WholeCells
 pub mod Demand1
+pub mod Demand3
