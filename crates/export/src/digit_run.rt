@@ -1,5 +1,5 @@
-// Digit runs. Most cells are read from a fresh state in a radix of figures alone, begin with a digit, and each of their separators stands
-// right before one: such cells go by numbers, and nothing is asked of the rule table.
+// Digit runs. Most cells are decimal, are read from a fresh state and begin with a digit, and each of their separators stands right before
+// one: such cells go by numbers, and nothing is asked of the rule table.
 ghost use mathlib.Core.Path.{_≡_};
 ghost use mathlib.Core.Bool.{true, false, not};
 ghost use Prim.Native.Nat.{_+_, _*_, _-_, _<_, _≤_};
@@ -128,21 +128,20 @@ fn grouped(at: usize, value: u64, passed: usize) -> GroupedRun
     }
 }
 
-// Below this no digit of any radix takes a value above 64 bits.
-const SMALL: u64 = 72057594037927936;
+// From this on a figure more may take a value above 64 bits.
+const LARGE: u64 = 1844674407370955161;
 
 // The value with a figure behind it.
-fn with_figure(value: u64, radix: u8, b: u8) -> u64
-    requires { ⌜ (value < 72057594037927936) × (48 ≤ b) ⌝ }
-    ensures { λ r. ⌜ r ≡ value * radix + (b - 48) ⌝ }
+fn with_figure(value: u64, b: u8) -> u64
+    requires { ⌜ (value < 1844674407370955161) × ((48 ≤ b) × (b ≤ 57)) ⌝ }
+    ensures { λ r. ⌜ r ≡ value * 10 + (b - 48) ⌝ }
 {
-    value * wide(radix) + wide(b - 48)
+    value * 10 + wide(b - 48)
 }
 
-// The digits of a cell whose radix has no letters.
-fn grouped_run(s: &[u8], separator: u8, radix: u8) -> GroupedRun
-    requires { ⌜ radix ≤ 10 ⌝ }
-    ensures { λ p. ⌜ (p .«is_so» ≡ true → Run separator radix (now (s .entry)) (p .at) (p .value) (p .count) (p .passed)) ⌝ }
+// The digits of a decimal cell.
+fn grouped_run(s: &[u8], separator: u8) -> GroupedRun
+    ensures { λ p. ⌜ (p .«is_so» ≡ true → Run separator 10 (now (s .entry)) (p .at) (p .value) (p .count) (p .passed)) ⌝ }
 {
     let mut at: usize = 0;
     let mut value: u64 = 0;
@@ -161,20 +160,20 @@ fn grouped_run(s: &[u8], separator: u8, radix: u8) -> GroupedRun
             if c == separator {
                 return not_grouped();
             }
-            if !char_is_digit_by_range(c, radix) {
+            if !char_is_digit_by_range(c, 10) {
                 return not_grouped();
             }
             passed += 1;
             at = n;
             continue;
         }
-        if !char_is_digit_by_range(b, radix) {
+        if !char_is_digit_by_range(b, 10) {
             return grouped(at, value, passed);
         }
-        if SMALL <= value {
+        if LARGE <= value {
             return not_grouped();
         }
-        value = with_figure(value, radix, b);
+        value = with_figure(value, b);
         at += 1;
     }
     grouped(at, value, passed)
@@ -213,11 +212,10 @@ pub extern "C" fn pawhetino_digit_run(
     if !has_internal(format, reader) {
         return digit_run_any(&s[..], reader, &mut *state, &mut *answer);
     }
-    let radix = radix_of(format);
-    if 10 < radix {
+    if radix_of(format) != 10 {
         return digit_run_any(&s[..], reader, &mut *state, &mut *answer);
     }
-    let grouped = grouped_run(s, separator, radix);
+    let grouped = grouped_run(s, separator);
     if !grouped.is_so {
         return digit_run_any(&s[..], reader, &mut *state, &mut *answer);
     }

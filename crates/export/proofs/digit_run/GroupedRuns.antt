@@ -32,28 +32,30 @@ use Rattle.cells.proofs.digit_run.PassedAhead.{running-past}
 use Rattle.export.specs.Code.GroupedCell.{Between}
 use Rattle.export.proofs.DigitBehind.{lands-between}
 
--- a digit of a radix without letters is a figure
-figure-value : (c radix : ℕ) → radix ≤ 10 → isDigit c radix ≡ true → (48 ≤ c) × (digitValue c ≡ some (c - 48))
+-- a decimal digit is a figure
+figure-value : (c : ℕ) → isDigit c 10 ≡ true → ((48 ≤ c) × (c ≤ 57)) × (digitValue c ≡ some (c - 48))
 unfolding isDigit digitValue
-figure-value c radix small = go (among 48 57 c) (among 65 90 c) (among 97 122 c) refl refl refl where
-  from : among 48 57 c ≡ true → 48 ≤ c
-  from e = leb-true 48 c (and-eq-true-iff (leb 48 c) (leb c 57) .0 e .0)
+figure-value c = go (among 48 57 c) (among 65 90 c) (among 97 122 c) refl refl refl where
+  inside : among 48 57 c ≡ true → (48 ≤ c) × (c ≤ 57)
+  inside e =
+      let both = and-eq-true-iff (leb 48 c) (leb c 57) .0 e in
+      (leb-true 48 c (both .0), leb-true c 57 (both .1))
 
-  not-below : (n : ℕ) → 10 ≤ n → ltb n radix ≡ true → ⊥
-  not-below n high h = omega (arith, ltb-true n radix h)
+  not-below : (n : ℕ) → 10 ≤ n → ltb n 10 ≡ true → ⊥
+  not-below n high h = omega (arith, ltb-true n 10 h)
 
   go : (t u v : Bool) → among 48 57 c ≡ t → among 65 90 c ≡ u → among 97 122 c ≡ v
-      → below (cond t (some (c - 48)) (cond u (some (c - 65 + 10)) (cond v (some (c - 97 + 10)) none))) radix ≡ true
-      → (48 ≤ c) × (cond t (some (c - 48)) (cond u (some (c - 65 + 10)) (cond v (some (c - 97 + 10)) none)) ≡ some (c - 48))
-  go true u v e f g h = (from e, refl)
+      → below (cond t (some (c - 48)) (cond u (some (c - 65 + 10)) (cond v (some (c - 97 + 10)) none))) 10 ≡ true
+      → ((48 ≤ c) × (c ≤ 57)) × (cond t (some (c - 48)) (cond u (some (c - 65 + 10)) (cond v (some (c - 97 + 10)) none)) ≡ some (c - 48))
+  go true u v e f g h = (inside e, refl)
   go false true v e f g h = absurd (not-below (c - 65 + 10) (omega arith) h)
   go false false true e f g h = absurd (not-below (c - 97 + 10) (omega arith) h)
   go false false false e f g h = absurd (not-below 255 (omega arith) h)
 
-pub figure-from : (c radix : ℕ) → radix ≤ 10 → isDigit c radix ≡ true → 48 ≤ c
-figure-from c radix small digit = figure-value c radix small digit .0
+pub is-figure : (c : ℕ) → isDigit c 10 ≡ true → (48 ≤ c) × (c ≤ 57)
+is-figure c digit = figure-value c digit .0
 
-module _ (separator radix : ℕ) (s : List ℕ) (x : Syntax) (f : Format) (r : Reader) (b : Between x separator radix r) where
+module _ (separator : ℕ) (s : List ℕ) (x : Syntax) (f : Format) (r : Reader) (b : Between x separator 10 r) where
   -- a run from a fresh state is not refused to such a reader
   clear : skipRefusal (x .flags) s (freshOf f) r ≡ 0
   unfolding skipRefusal
@@ -76,21 +78,21 @@ module _ (separator radix : ℕ) (s : List ℕ) (x : Syntax) (f : Format) (r : R
     count = at - passed
 
     -- a digit
-    pub grouped-digit : at < length s → (getD s at 0 ≡ separator → ⊥) → radix ≤ 10 → isDigit (getD s at 0) radix ≡ true
-        → (v : ℕ) → v ≡ value * radix + (getD s at 0 - 48) → v < 2 ^ 64
+    pub grouped-digit : at < length s → (getD s at 0 ≡ separator → ⊥) → isDigit (getD s at 0) 10 ≡ true
+        → (v : ℕ) → v ≡ value * 10 + (getD s at 0 - 48) → v < 2 ^ 64
         → Running x s r (freshOf f) (at + 1) (at + 1 - passed) v (at + 1 - passed) passed false
-    grouped-digit inside differ figures digit v worth small =
+    grouped-digit inside differ digit v worth small =
         let nothing = passes-none (eqb count 0) at inside differ in
         let counts : count + 1 ≡ cond (hasAnyFlag (x .flags)) (count + 1) count = rw (b .internal) in
         let one-more : count + 1 ≡ at + 1 - passed = omega (arith, few) in
         let took = plain-taken x s r (freshOf f) at count (here .stands) inside nothing (rw (b .own-radix) digit) (count + 1) counts in
-        let grown : v ≡ withDigit (x .radix) value (digitValue (getD s at 0)) = rw (figure-value (getD s at 0) radix figures digit .1, b .own-radix) worth in
+        let grown : v ≡ withDigit (x .radix) value (digitValue (getD s at 0)) = rw (figure-value (getD s at 0) digit .1, b .own-radix) worth in
         let on = running-on x s r (freshOf f) clear at count value count passed false here (getD s at 0) (at + 1) (count + 1) 0 took v grown small in
         rw (one-more, add-zero passed) at (unknown x s r (freshOf f) (at + 1) (count + 1) v (count + 1) (passed + 0) _ on)
 
     -- a separator right before a digit
     pub grouped-passes : at < length s → getD s at 0 ≡ separator → at + 1 < length s → (getD s (at + 1) 0 ≡ separator → ⊥)
-        → isDigit (getD s (at + 1) 0) radix ≡ true → (at ≡ 0 → ⊥)
+        → isDigit (getD s (at + 1) 0) 10 ≡ true → (at ≡ 0 → ⊥)
         → Running x s r (freshOf f) (at + 1) (at + 1 - (passed + 1)) value (at + 1 - (passed + 1)) (passed + 1) false
     unfolding readingWith
     grouped-passes inside equal more differ digit begun =
@@ -110,7 +112,7 @@ module _ (separator radix : ℕ) (s : List ℕ) (x : Syntax) (f : Format) (r : R
         let counted : eqb count 0 ≡ false = ne-eqb count 0 (λ z. begun (omega (arith, z, few))) in
         rw (counted, add-zero passed) at (running-over x s r (freshOf f) clear at count value count passed false here at 0 last)
 
-    pub grouped-stops : (at ≡ 0 → ⊥) → at < length s → (getD s at 0 ≡ separator → ⊥) → isDigit (getD s at 0) radix ≡ false
+    pub grouped-stops : (at ≡ 0 → ⊥) → at < length s → (getD s at 0 ≡ separator → ⊥) → isDigit (getD s at 0) 10 ≡ false
         → record { refusal = 0; value = some value; taken = count; passed = passed; state = stateAt (freshOf f) r at count } ≡ digitRunOf x s (freshOf f) r
     grouped-stops begun inside differ other =
         ends begun (plain-over x s r (freshOf f) at count (here .stands) inside (passes-none (eqb count 0) at inside differ) (rw (b .own-radix) other))

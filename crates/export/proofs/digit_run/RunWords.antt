@@ -34,13 +34,13 @@ module _ (n : ℕ) (w s : List ℕ) (low : n ≤ 2) (edition : getD w 7 0 ≡ 0)
   by = named-on n (getD w 7 0) low (rw edition)
 
   module _ (at value count passed : ℕ) (positive : 0 < digitSeparator f) (internal : flag f (32 + n) ≡ true)
-      (run : GroupedRun (digitSeparator f) (mantissaRadix f) s at value count passed) where
+      (decimal : mantissaRadix f ≡ 10) (run : GroupedRun (digitSeparator f) 10 s at value count passed) where
     read : digitRunBy n w s ≡ record { refusal = 0; value = some value; taken = count; passed = passed; state = stateAt (freshOf f) r at count }
     unfolding digitRunBy syntaxOn syntaxOf
     read =
         rw (by, fresh)
         (sym (run (syntaxOf f r) f r
-        (record { own-separator = refl; own-radix = refl; internal = rw (counted-reader n low .flags f) internal; counted = counted-reader n low .counts; positive = positive })))
+        (record { own-separator = refl; own-radix = decimal; internal = rw (counted-reader n low .flags f) internal; counted = counted-reader n low .counts; positive = positive })))
 
     pub run-written : (old : List ℕ)
         → (0 ≡ digitRunBy n w s .refusal)

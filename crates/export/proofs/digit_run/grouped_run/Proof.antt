@@ -12,23 +12,23 @@ use Rattle.reader.specs.declared.passing.Syntax.{Syntax}
 use Rattle.reader.specs.State.{freshOf}
 use Rattle.cells.proofs.digit_run.RunLoop.{Running}
 use Rattle.export.specs.Code.GroupedCell.{Between}
-use Rattle.export.proofs.digit_run.GroupedRuns.{figure-from, grouped-starts, grouped-digit, grouped-passes, grouped-stops, grouped-out}
+use Rattle.export.proofs.digit_run.GroupedRuns.{is-figure, grouped-starts, grouped-digit, grouped-passes, grouped-stops, grouped-out}
 use Rattle.export.proofs.digit_run.grouped_run.Statement.{statement}
 use Rattle.export.proofs.digit_run.grouped_run.Tie as tie
 
 abbrev Inv-loop : tie.InvT-loop
-Inv-loop s separator radix at₀ value₀ passed₀ at value passed =
+Inv-loop s separator at₀ value₀ passed₀ at value passed =
     (at ≤ length s) × (min at 1 + passed ≤ at)
-    × ((x : Syntax) (f : Format) (r : Reader) → Between x separator radix r → Running x s r (freshOf f) at (at - passed) value (at - passed) passed false)
+    × ((x : Syntax) (f : Format) (r : Reader) → Between x separator 10 r → Running x s r (freshOf f) at (at - passed) value (at - passed) passed false)
 
 abbrev μ-loop : tie.MeasureT-loop
-μ-loop s separator radix at₀ value₀ passed₀ at value passed =
+μ-loop s separator at₀ value₀ passed₀ at value passed =
     length s - at
 
 loop-holds : tie.Need-loop-holds Inv-loop μ-loop
 loop-holds c =
     let a = c .before .args in
-    (omega arith, omega arith, λ x f r b. grouped-starts (a .separator) (a .radix) (a .s .now) x f r b)
+    (omega arith, omega arith, λ x f r b. grouped-starts (a .separator) (a .s .now) x f r b)
 
 shared-slice-read-b : tie.Need-shared-slice-read-b Inv-loop μ-loop
 shared-slice-read-b c =
@@ -84,13 +84,12 @@ loop-less c =
 loop-again : tie.Need-loop-again Inv-loop μ-loop
 loop-again c =
     let l = c .before .before .before .before .before .before .before .before .before in
-    let k = l .before .before in
-    let a = k .args in
+    let a = l .before .before .args in
     let i = l .loop .inv in
     let inside = c .before .before .before .before .before .before .before .before .loop-test .taken in
     let more = c .before .before .before .before .before .if2 .left in
     let begun = c .before .before .before .before .if3 .left in
-    (omega (arith, more), omega (arith, i .1, begun), λ x f r b. grouped-passes (a .separator) (a .radix) (a .s .now) x f r b (l .loop .at) (l .loop .value) (l .loop .passed) (i .1) (i .2 x f r b) inside (c .before .before .before .before .before .before .if1 .taken) more (c .before .before .if4 .left) (sym (c .before .char-is-digit-by-range .ensures) ∙ not-false _ (c .if5 .left)) begun)
+    (omega (arith, more), omega (arith, i .1, begun), λ x f r b. grouped-passes (a .separator) (a .s .now) x f r b (l .loop .at) (l .loop .value) (l .loop .passed) (i .1) (i .2 x f r b) inside (c .before .before .before .before .before .before .if1 .taken) more (c .before .before .if4 .left) (sym (c .before .char-is-digit-by-range .ensures) ∙ not-false _ (c .if5 .left)) begun)
 
 char-is-digit-by-range-requires-2 : tie.Need-char-is-digit-by-range-requires-2 Inv-loop μ-loop
 char-is-digit-by-range-requires-2 c κs = search needs
@@ -102,11 +101,10 @@ grouped-requires c κs =
 returns-5 : tie.Need-returns-5 Inv-loop μ-loop
 returns-5 c =
     let l = c .before .before .before .before .before .before in
-    let k = l .before .before in
-    let a = k .args in
+    let a = l .before .before .args in
     let i = l .loop .inv in
     rw (c .grouped .ensures)
-    (λ so x f r b. grouped-stops (a .separator) (a .radix) (a .s .now) x f r b (l .loop .at) (l .loop .value) (l .loop .passed) (i .1) (i .2 x f r b) (eqb-false _ _ (not-true _ so)) (c .before .before .before .before .before .loop-test .taken) (c .before .before .before .if1 .left) (sym (c .before .before .char-is-digit-by-range2 .ensures) ∙ not-true _ (c .before .if6 .taken)))
+    (λ so x f r b. grouped-stops (a .separator) (a .s .now) x f r b (l .loop .at) (l .loop .value) (l .loop .passed) (i .1) (i .2 x f r b) (eqb-false _ _ (not-true _ so)) (c .before .before .before .before .before .loop-test .taken) (c .before .before .before .if1 .left) (sym (c .before .before .char-is-digit-by-range2 .ensures) ∙ not-true _ (c .before .if6 .taken)))
 
 not-grouped-requires-5 : tie.Need-not-grouped-requires-5 Inv-loop μ-loop
 not-grouped-requires-5 c κs = search needs
@@ -118,10 +116,9 @@ returns-6 c =
 with-figure-requires : tie.Need-with-figure-requires Inv-loop μ-loop
 with-figure-requires c κs =
     let l = c .before .before .before .before .before .before in
-    let k = l .before .before in
-    let a = k .args in
+    let a = l .before .before .args in
     let i = l .loop .inv in
-    (omega (arith, c .if7 .left), figure-from _ (a .radix) (k .pre) (sym (c .before .before .char-is-digit-by-range2 .ensures) ∙ not-false _ (c .before .if6 .left)))
+    (omega (arith, c .if7 .left), is-figure _ (sym (c .before .before .char-is-digit-by-range2 .ensures) ∙ not-false _ (c .before .if6 .left)))
 
 add-at : tie.Need-add-at Inv-loop μ-loop
 add-at c =
@@ -134,12 +131,11 @@ loop-less-2 c =
 loop-again-2 : tie.Need-loop-again-2 Inv-loop μ-loop
 loop-again-2 c =
     let l = c .before .before .before .before .before .before .before in
-    let k = l .before .before in
-    let a = k .args in
+    let a = l .before .before .args in
     let i = l .loop .inv in
     let inside = c .before .before .before .before .before .before .loop-test .taken in
     let digit = sym (c .before .before .before .char-is-digit-by-range2 .ensures) ∙ not-false _ (c .before .before .if6 .left) in
-    (omega (arith, inside), omega (arith, i .1), λ x f r b. grouped-digit (a .separator) (a .radix) (a .s .now) x f r b (l .loop .at) (l .loop .value) (l .loop .passed) (i .1) (i .2 x f r b) inside (c .before .before .before .before .if1 .left) (k .pre) digit _ (c .with-figure .ensures) (omega arith))
+    (omega (arith, inside), omega (arith, i .1), λ x f r b. grouped-digit (a .separator) (a .s .now) x f r b (l .loop .at) (l .loop .value) (l .loop .passed) (i .1) (i .2 x f r b) inside (c .before .before .before .before .if1 .left) digit _ (c .with-figure .ensures) (omega arith))
 
 grouped-requires-2 : tie.Need-grouped-requires-2 Inv-loop μ-loop
 grouped-requires-2 c κs =
@@ -148,10 +144,9 @@ grouped-requires-2 c κs =
 returns-7 : tie.Need-returns-7 Inv-loop μ-loop
 returns-7 c =
     let l = c .before .before in
-    let k = l .before .before in
-    let a = k .args in
+    let a = l .before .before .args in
     let i = l .loop .inv in
-    rw (c .grouped2 .ensures) (λ so x f r b. grouped-out (a .separator) (a .radix) (a .s .now) x f r b (l .loop .at) (l .loop .value) (l .loop .passed) (i .1) (i .2 x f r b) (eqb-false _ _ (not-true _ so)) (c .before .loop-test .left))
+    rw (c .grouped2 .ensures) (λ so x f r b. grouped-out (a .separator) (a .s .now) x f r b (l .loop .at) (l .loop .value) (l .loop .passed) (i .1) (i .2 x f r b) (eqb-false _ _ (not-true _ so)) (c .before .loop-test .left))
 
 pub grouped-run-spec : {M : Type 1} → statement M
 grouped-run-spec =

@@ -80,7 +80,7 @@ returns-5 : tie.Need-returns-5
 returns-5 c = search needs
 
 grouped-run-requires : tie.Need-grouped-run-requires
-grouped-run-requires c κs = omega (arith, c .if5 .left)
+grouped-run-requires c κs = search needs
 
 digit-run-any-requires-6 : tie.Need-digit-run-any-requires-6
 digit-run-any-requires-6 c κs = search needs
@@ -127,7 +127,8 @@ returns-7 c =
     (grouped .result .at) (grouped .result .value) (grouped .result .count) (grouped .result .passed)
     (rw (sym (separator .ensures)) (omega (arith, c .before .before .before .before .before .before .before .before .before .before .before .before .before .if3 .left)))
     (sym (internal .ensures) ∙ not-false _ (c .before .before .before .before .before .before .before .before .before .before .before .if4 .left))
-    (rw (separator .ensures, c .before .before .before .before .before .before .before .before .before .before .radix-of .ensures) at run)
+    (sym (c .before .before .before .before .before .before .before .before .before .before .radix-of .ensures) ∙ c .before .before .before .before .before .before .before .before .before .if5 .left)
+    (rw (separator .ensures) at run)
     (a .answer .now))
 
 pub pawhetino-digit-run-spec : {M : Type 1} → statement M
