@@ -1,7 +1,4 @@
-//! Long runs: right, and quick. A run that went over its digits again for each of
-//! them would take minutes.
-
-use std::time::{Duration, Instant};
+//! Long runs. One that went over its digits again for each of them would take minutes.
 
 use crate::compare::ported;
 use crate::group::{Group, Report};
@@ -13,34 +10,29 @@ use crate::word::{Field, Word};
 
 const LENGTH: usize = 300_000;
 
-/// Some hundred times what a run takes.
-const MOST: Duration = Duration::from_secs(2);
-
-/// Where separators are digits that may not be passed, each peek looks for the end
-/// of all that are left; so does the definition.
+/// Where separators are digits that may not be passed, each peek of the port looks
+/// for the end of all that are left.
 const LENGTH_OF_LOOKING_ON: usize = 2_000;
 
 pub fn run(report: &mut Report) {
     let mut group = Group::new("digit runs, long");
     for set in SETS {
-        if !compare_set(&mut group, set) {
-            // The rest would take as long.
-            break;
-        }
+        compare_set(&mut group, set);
     }
     report.close(group);
 }
 
-/// Whether all runs were quick.
-fn compare_set(group: &mut Group, set: u32) -> bool {
+fn compare_set(group: &mut Group, set: u32) {
     let word = with_integer_flags(set);
     let zero_separates = word.with_field(Field::Separator, b'0');
     let length = match set {
         TC => LENGTH_OF_LOOKING_ON,
         _ => LENGTH,
     };
-    texts().iter().all(|text| compare(group, word, text))
-        && compare(group, zero_separates, &many(b"0", length, b"12"))
+    for text in texts() {
+        compare(group, word, &text);
+    }
+    compare(group, zero_separates, &many(b"0", length, b"12"));
 }
 
 fn texts() -> [Vec<u8>; 7] {
@@ -61,14 +53,11 @@ fn many(part: &[u8], times: usize, end: &[u8]) -> Vec<u8> {
 }
 
 /// The text is too long to be shown.
-fn compare(group: &mut Group, word: Word, text: &[u8]) -> bool {
+fn compare(group: &mut Group, word: Word, text: &[u8]) {
     let case = Case::fresh(word, text, INTEGER);
     let start = text[..2].escape_ascii();
     let input = format_args!("{word}, {} bytes from {start} on", text.len());
-    let before = Instant::now();
     let answer = library::call(&case, Call::DigitRun);
-    let quick = before.elapsed() < MOST;
     let due = ported::digit_run(&case);
     group.agree(&input, ("library", answer), ("port", due));
-    group.agree(&input, ("quick", quick), ("harness", true))
 }
