@@ -19,7 +19,7 @@ use Rattle.reader.specs.History.{zeroSkipBy, numberIn, answerTo}
 use Rattle.reader.specs.RefusalKeeps.{ResultOrRefusal, RefusalKeeps}
 use Rattle.reader.proofs.Demand1.{demand-1}
 use Rattle.cells.specs.Value.{valueOf}
-use Rattle.cells.specs.DigitRun.{line23, line24, digitsTaken, runRefusal, refusedRun, digitRunOf}
+use Rattle.cells.specs.DigitRun.{line23, line24, takenRun, runRefusal, refusedRun, digitRunOf}
 use Rattle.cells.specs.RefusalKeeps.{ReaderFault, DigitFault, RunRefusalKeeps}
 
 -- a list without members
@@ -44,7 +44,7 @@ module _ (x : Syntax) (s : List ℕ) (st : State) (r : Reader) where
     go false t (inr keeps) = inr (rw t at (keeps .number))
 
   abbrev digits : List ℕ
-  digits = digitsTaken m s st r .digits
+  digits = takenRun m s st r .digits
 
   -- 23 and 24, where 01's hold
   digit-number : (firstFailing (line23 digits ∷ line24 (valueOf (x .radix) digits) ∷ []) ≡ 0) ⊎ DigitFault x s st r (firstFailing (line23 digits ∷ line24 (valueOf (x .radix) digits) ∷ []))

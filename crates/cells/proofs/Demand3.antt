@@ -21,7 +21,7 @@ use Rattle.reader.specs.History.{Call, peekBy, takeBy, peekAnswered, takeAnswer
 use Rattle.reader.proofs.ByteTally.Steps.{peek-step, take-step, take-counts}
 use Rattle.reader.proofs.Demand3.{demand-3}
 use Rattle.cells.specs.DigitRun.{Digits, seesDigit, digitsFrom, runRefusal, digitRunOf}
-use Rattle.cells.specs.ByteTally.{Item, aCall, aRun, stepsFrom, callsOfRun, runFrom, readings, Sums, sumsFrom, standsFor, callsOf, RunTally}
+use Rattle.cells.specs.ByteTally.{Item, aCall, aRun, callsFrom, callsOfRun, runFrom, readings, Sums, sumsAfter, standsFor, callsOf, RunTally}
 
 -- a list of calls in two parts
 trace-join : (m : Sheet → Reader → Reading) (s : List ℕ) (w : Trace) (a b : List Call) → traceOf m s w (a ++ b) ≡ traceOf m s (traceOf m s w a) b
@@ -88,19 +88,19 @@ module _ (x : Sheet → Reader → Syntax) (s : List ℕ) (r : Reader) (sheet : 
 
   -- a run's peeks and takes come to its state and sums
   steps-behind : (n : ℕ) (w : Trace) → sheetOf (w .state) ≡ sheet
-      → Behind w (traceOf (readings x s) s w (stepsFrom n m s r (w .state))) (digitsFrom n m s r (w .state) .state)
+      → Behind w (traceOf (readings x s) s w (callsFrom n m s r (w .state))) (digitsFrom n m s r (w .state) .state)
       (length (digitsFrom n m s r (w .state) .digits)) (digitsFrom n m s r (w .state) .passed)
-  unfolding stepsFrom digitsFrom
+  unfolding callsFrom digitsFrom
   steps-behind zero w e = last-peek w e
   steps-behind (suc n) w e = go (seesDigit m (peekOf m s (w .state) r .byte)) refl (steps-behind n (behind w e) (behind-sheet w e)) where
     go :
         (t : Bool) → seesDigit m (peekOf m s (w .state) r .byte) ≡ t
-        → Behind (behind w e) (traceOf (readings x s) s (behind w e) (stepsFrom n m s r (took w e .state))) (digitsFrom n m s r (took w e .state) .state)
+        → Behind (behind w e) (traceOf (readings x s) s (behind w e) (callsFrom n m s r (took w e .state))) (digitsFrom n m s r (took w e .state) .state)
         (length (digitsFrom n m s r (took w e .state) .digits)) (digitsFrom n m s r (took w e .state) .passed)
-        → Behind w (traceOf (readings x s) s w (stepsFrom (suc n) m s r (w .state))) (digitsFrom (suc n) m s r (w .state) .state)
+        → Behind w (traceOf (readings x s) s w (callsFrom (suc n) m s r (w .state))) (digitsFrom (suc n) m s r (w .state) .state)
         (length (digitsFrom (suc n) m s r (w .state) .digits)) (digitsFrom (suc n) m s r (w .state) .passed)
     go false t rest = rw t (last-peek w e)
-    go true t rest = rw (t, step-trace w e (stepsFrom n m s r (took w e .state))) (step-then w e _ (digitsFrom n m s r (took w e .state)) rest)
+    go true t rest = rw (t, step-trace w e (callsFrom n m s r (took w e .state))) (step-then w e _ (digitsFrom n m s r (took w e .state)) rest)
 
 -- a run, refused or not
 run-behind : (x : Sheet → Reader → Syntax) (s : List ℕ) (r : Reader) (w : Trace)
@@ -155,7 +155,7 @@ module _ (x : Sheet → Reader → Syntax) (s : List ℕ) where
       record { here = run .here; took = omega (arith, run .took, now .took); over = omega (arith, run .over, now .over) }
 
   list-at : (items : List Item) (w : Trace) (sums : Sums x s) → At w sums
-      → At (traceOf (readings x s) s w (standsFor x s (sums .state) items)) (sumsFrom x s sums items)
+      → At (traceOf (readings x s) s w (standsFor x s (sums .state) items)) (sumsAfter x s sums items)
   list-at [] w sums now = now
   list-at (aCall call ∷ rest) w sums now = list-at rest _ _ (call-at call w sums now)
   list-at (aRun r ∷ rest) w sums now =

@@ -26,7 +26,7 @@ use Rattle.reader.specs.Calls.{peekOf, nextOf}
 use Rattle.reader.specs.History.{aTake, Step, byteTaken, stepOf}
 use Rattle.reader.proofs.passing.Passed.{passes-here, separator-is}
 use Rattle.reader.proofs.ByteTally.Steps.{Moves, peek-step, take-step}
-use Rattle.cells.specs.DigitRun.{seesDigit, digitsFrom, digitsTaken}
+use Rattle.cells.specs.DigitRun.{seesDigit, digitsFrom, takenRun}
 use Rattle.cells.specs.Whole.{others}
 use Rattle.cells.proofs.Digits.{digit-taken}
 
@@ -123,8 +123,8 @@ module _ (x : Syntax) (s : List ℕ) (r : Reader) (apart : (b : ℕ) → isDigit
 
 -- A RUN FROM A FRESH STATE THAT REACHES THE END OF A CELL TAKES THE CELL'S BYTES THAT ARE NO SEPARATORS, for a word that the check accepts
 pub whole-digits : (sheet : Sheet) → fullCheck (sheet .format) ≡ 0 → (s : List ℕ) (r : Reader)
-    → digitsTaken (readingOn sheet r) s (freshOn sheet) r .state .cursor ≡ length s
-    → digitsTaken (readingOn sheet r) s (freshOn sheet) r .digits ≡ others (digitSeparator (sheet .format)) s
+    → takenRun (readingOn sheet r) s (freshOn sheet) r .state .cursor ≡ length s
+    → takenRun (readingOn sheet r) s (freshOn sheet) r .digits ≡ others (digitSeparator (sheet .format)) s
 unfolding syntaxOn syntaxOf
 whole-digits sheet accepted s r end = whole-run (syntaxOn sheet r) s r apart (length s) (freshOn sheet) refl end where
   apart : (b : ℕ) → isDigit b (mantissaRadix (sheet .format)) ≡ true → isSeparator (digitSeparator (sheet .format)) b ≡ false

@@ -22,15 +22,15 @@ pub data Item : Type 0 where
   aRun : Reader → Item
 
 -- the peeks and takes that a run makes, as its definition makes them
-unfoldable pub stepsFrom : ℕ → Reading → List ℕ → Reader → State → List Call
-stepsFrom zero m s r st = peekBy r ∷ []
-stepsFrom (suc n) m s r st =
+unfoldable pub callsFrom : ℕ → Reading → List ℕ → Reader → State → List Call
+callsFrom zero m s r st = peekBy r ∷ []
+callsFrom (suc n) m s r st =
     cond (seesDigit m (peekOf m s st r .byte))
-    (peekBy r ∷ takeBy r ∷ stepsFrom n m s r (nextOf m s (peekOf m s st r .state) r .state))
+    (peekBy r ∷ takeBy r ∷ callsFrom n m s r (nextOf m s (peekOf m s st r .state) r .state))
     (peekBy r ∷ [])
 
 abbrev pub callsOfRun : Syntax → List ℕ → State → Reader → List Call
-callsOfRun x s st r = cond (eqb (digitRunOf x s st r .refusal) 0) (stepsFrom (length s) (readingWith x) s r st) []
+callsOfRun x s st r = cond (eqb (digitRunOf x s st r .refusal) 0) (callsFrom (length s) (readingWith x) s r st) []
 
 -- `x` says what a sheet means to each reader
 module _ (x : Sheet → Reader → Syntax) (s : List ℕ) where
@@ -46,18 +46,18 @@ module _ (x : Sheet → Reader → Syntax) (s : List ℕ) where
     pub taken : ℕ
     pub passed : ℕ
 
-  abbrev pub sumsFrom : Sums → List Item → Sums
-  sumsFrom w [] = w
-  sumsFrom w (aCall call ∷ rest) =
-      sumsFrom
+  abbrev pub sumsAfter : Sums → List Item → Sums
+  sumsAfter w [] = w
+  sumsAfter w (aCall call ∷ rest) =
+      sumsAfter
       (record {
         state = returned (answerTo readings s (w .state) call);
         taken = w .taken + takenIn (answerTo readings s (w .state) call);
         passed = w .passed + passedIn (answerTo readings s (w .state) call);
       })
       rest
-  sumsFrom w (aRun r ∷ rest) =
-      sumsFrom
+  sumsAfter w (aRun r ∷ rest) =
+      sumsAfter
       (record {
         state = runFrom (w .state) r .state;
         taken = w .taken + runFrom (w .state) r .taken;
@@ -73,7 +73,7 @@ module _ (x : Sheet → Reader → Syntax) (s : List ℕ) where
 
   -- where it comes to from a fresh cursor on a sheet, and the calls that it stands for there
   abbrev pub sumsOf : Sheet → List Item → Sums
-  sumsOf sheet items = sumsFrom (record { state = freshOn sheet; taken = 0; passed = 0 }) items
+  sumsOf sheet items = sumsAfter (record { state = freshOn sheet; taken = 0; passed = 0 }) items
 
   abbrev pub callsOf : Sheet → List Item → List Call
   callsOf sheet items = standsFor (freshOn sheet) items

@@ -49,8 +49,8 @@ digitsFrom (suc n) m s r st =
     (stopped (peekOf m s st r))
 
 -- there are no more steps that take a byte than there are bytes
-abbrev pub digitsTaken : Reading → List ℕ → State → Reader → Digits
-digitsTaken m s st r = digitsFrom (length s) m s r st
+abbrev pub takenRun : Reading → List ℕ → State → Reader → Digits
+takenRun m s st r = digitsFrom (length s) m s r st
 
 -- THE RUN
 
@@ -80,14 +80,14 @@ unfoldable pub runRefusal : Syntax → List ℕ → State → Reader → ℕ
 runRefusal x s st r =
     firstFailing
     (skipRefusal (x .flags) s st r
-    ∷ line23 (digitsTaken (readingWith x) s st r .digits)
-    ∷ line24 (valueOf (x .radix) (digitsTaken (readingWith x) s st r .digits))
+    ∷ line23 (takenRun (readingWith x) s st r .digits)
+    ∷ line24 (valueOf (x .radix) (takenRun (readingWith x) s st r .digits))
     ∷ [])
 
 unfoldable pub digitRunOf : Syntax → List ℕ → State → Reader → RunOutcome
 digitRunOf x s st r =
     cond (eqb (runRefusal x s st r) 0)
-    (readRun (valueOf (x .radix) (digitsTaken (readingWith x) s st r .digits)) (digitsTaken (readingWith x) s st r))
+    (readRun (valueOf (x .radix) (takenRun (readingWith x) s st r .digits)) (takenRun (readingWith x) s st r))
     (refusedRun (runRefusal x s st r) st)
 
 -- WHAT THE CASES OF THE ANSWER SAY

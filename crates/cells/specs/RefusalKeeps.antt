@@ -10,7 +10,7 @@ use Rattle.reader.specs.declared.passing.Syntax.{Syntax}
 use Rattle.reader.specs.Reading.{readingWith}
 use Rattle.reader.specs.RefusalKeeps.{PlaceFault, SpecialFault, OwnFault}
 use Rattle.cells.specs.Value.{valueOf}
-use Rattle.cells.specs.DigitRun.{RunOutcome, digitsTaken}
+use Rattle.cells.specs.DigitRun.{RunOutcome, takenRun}
 
 -- 01's numbers of a zero skip, each told of its own fault
 abbrev pub ReaderFault : Syntax → List ℕ → State → Reader → ℕ → Type 0
@@ -19,8 +19,8 @@ ReaderFault x s st r number = PlaceFault s st number ⊎ (SpecialFault r number 
 -- "23 no digit and 24 value above 64 bits"
 abbrev pub DigitFault : Syntax → List ℕ → State → Reader → ℕ → Type 0
 DigitFault x s st r number =
-    ((number ≡ 23) × (digitsTaken (readingWith x) s st r .digits ≡ []))
-    ⊎ ((number ≡ 24) × (2 ^ 64 ≤ valueOf (x .radix) (digitsTaken (readingWith x) s st r .digits)))
+    ((number ≡ 23) × (takenRun (readingWith x) s st r .digits ≡ []))
+    ⊎ ((number ≡ 24) × (2 ^ 64 ≤ valueOf (x .radix) (takenRun (readingWith x) s st r .digits)))
 
 -- a refused run takes nothing, passes nothing and returns the state it was given
 pub record RunRefusalKeeps (x : Syntax) (s : List ℕ) (given : State) (r : Reader) (o : RunOutcome) : Type 0 where

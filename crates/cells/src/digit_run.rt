@@ -8,7 +8,7 @@ ghost use Rattle.reader.specs.Reading.{syntaxFor, readingWith, readingFor, hasA
 ghost use Rattle.reader.specs.Calls.{nextOf};
 ghost use Rattle.reader.specs.ZeroSkip.{skipRefusal};
 ghost use Rattle.cells.specs.DigitRun.{runOutcomeOf, digitRunOf};
-ghost use Rattle.cells.specs.Code.Steps.{stepOf, Stands, StepTold, stillRefused, endedRun};
+ghost use Rattle.cells.specs.Code.Steps.{stepBehind, Stands, StepTold, stillRefused, endedRun};
 use crate::value::with_digit;
 use reader::iterator::admit_run;
 use reader::passing::Syntax;
@@ -55,7 +55,7 @@ pub enum Step {
 // The take behind a peek that saw a digit and passed so many, from the state that the peek left.
 fn take_seen(s: &[u8], seen: State, reader: Reader, over: usize) -> Step
     requires { ⌜ (over ≤ seen .cursor) × (seen .cursor ≤ length (now s)) ⌝ }
-    ensures { λ r. ⌜ r ≡ stepOf reader over (nextOf (readingFor seen reader) (now (s .entry)) seen reader) ⌝ }
+    ensures { λ r. ⌜ r ≡ stepBehind reader over (nextOf (readingFor seen reader) (now (s .entry)) seen reader) ⌝ }
 {
     let took = next(s, seen, reader);
     let report = took.report;

@@ -30,7 +30,7 @@ use Rattle.reader.proofs.ByteTally.Steps.{take-step}
 use Rattle.cells.specs.declared.digit_run.Step.{Step}
 use Rattle.cells.specs.declared.digit_run.Step.the-variants as step
 use Rattle.cells.specs.DigitRun.{seesDigit}
-use Rattle.cells.specs.Code.Steps.{stepWith, stepOf, Stands, StepTold, Takes, Ends}
+use Rattle.cells.specs.Code.Steps.{stepOfByte, stepBehind, Stands, StepTold, Takes, Ends}
 use Rattle.cells.proofs.digit_run.Stepping.{end-passes-none, further, sees, takes-byte, takes-none, place-inside, ends, countBehind, takes, ends-behind}
 
 -- a place and a count leave what of the state says how it is read
@@ -50,18 +50,18 @@ take-fits m s st r over before in-buffer =
 -- a take's answer as a step
 module _ (took : Answer) (r : Reader) (over : ℕ) (o : Outcome) (told : outcomeOf took ≡ o) where
   pub step-taken : (c : ℕ) → took .report .seen ≡ sight.Byte c → (behind : ℕ) → behind ≡ countOf (took .state) r
-      → step.Taken c (took .state .cursor) behind (over + took .report .passed) ≡ stepOf r over o
+      → step.Taken c (took .state .cursor) behind (over + took .report .passed) ≡ stepBehind r over o
   step-taken c e behind counts =
-      let one : step.Taken c (took .state .cursor) behind (over + took .report .passed) ≡ stepWith (some c) r over (outcomeOf took) = rw counts in
-      let known : stepWith (seenByte (took .report .seen)) r over (outcomeOf took) ≡ stepWith (some c) r over (outcomeOf took) =
-      ap (λ (b : Option ℕ). stepWith b r over (outcomeOf took)) (ap seenByte e) in
-      one ∙ sym known ∙ ap (stepOf r over) told
+      let one : step.Taken c (took .state .cursor) behind (over + took .report .passed) ≡ stepOfByte (some c) r over (outcomeOf took) = rw counts in
+      let known : stepOfByte (seenByte (took .report .seen)) r over (outcomeOf took) ≡ stepOfByte (some c) r over (outcomeOf took) =
+      ap (λ (b : Option ℕ). stepOfByte b r over (outcomeOf took)) (ap seenByte e) in
+      one ∙ sym known ∙ ap (stepBehind r over) told
 
-  pub step-over : seenByte (took .report .seen) ≡ none → step.Over (took .state .cursor) (over + took .report .passed) ≡ stepOf r over o
+  pub step-over : seenByte (took .report .seen) ≡ none → step.Over (took .state .cursor) (over + took .report .passed) ≡ stepBehind r over o
   step-over e =
-      let known : stepWith (seenByte (took .report .seen)) r over (outcomeOf took) ≡ stepWith none r over (outcomeOf took) =
-      ap (λ (b : Option ℕ). stepWith b r over (outcomeOf took)) e in
-      sym known ∙ ap (stepOf r over) told
+      let known : stepOfByte (seenByte (took .report .seen)) r over (outcomeOf took) ≡ stepOfByte none r over (outcomeOf took) =
+      ap (λ (b : Option ℕ). stepOfByte b r over (outcomeOf took)) e in
+      sym known ∙ ap (stepBehind r over) told
 
 -- what the digit test says of a byte that was seen
 pub sees-digit : (x : Syntax) (o : Seen) (b : ℕ) → o ≡ sight.Byte b → (d : Bool) → d ≡ isDigit b (x .radix) → (t : Bool) → d ≡ t
@@ -99,9 +99,9 @@ module _ (x : Syntax) (s : List ℕ) (r : Reader) (st : State) where
     on = further m s r st at count stands place (omega arith) (place-inside m s r st at count stands place refl)
 
     -- the take from where a digit is seen
-    take-told : seesDigit m (byteAt s place) ≡ true → StepTold m s r st at count (stepOf r (place - at) (nextOf m s (stateAt st r place count) r))
+    take-told : seesDigit m (byteAt s place) ≡ true → StepTold m s r st at count (stepBehind r (place - at) (nextOf m s (stateAt st r place count) r))
     take-told digit = go (ltb to (length s)) refl where
-      go : (t : Bool) → ltb to (length s) ≡ t → StepTold m s r st at count (stepOf r (place - at) (nextOf m s (stateAt st r place count) r))
+      go : (t : Bool) → ltb to (length s) ≡ t → StepTold m s r st at count (stepBehind r (place - at) (nextOf m s (stateAt st r place count) r))
       go true e =
           let h = ltb-true to (length s) e in
           let behind = countBehind m (getD s to 0) count in
@@ -141,9 +141,9 @@ module _ (x : Syntax) (s : List ℕ) (r : Reader) (st : State) where
 
       -- a digit is seen, and the take goes from there
       pub told-taken : seesDigit m (seenByte (seen .report .seen)) ≡ true → (step : Step)
-          → step ≡ stepOf r (seen .report .passed) (nextOf (readingFor (seen .state) r) s (seen .state) r) → StepTold m s r st at count step
+          → step ≡ stepBehind r (seen .report .passed) (nextOf (readingFor (seen .state) r) s (seen .state) r) → StepTold m s r st at count step
       told-taken digit step took =
-          let same : step ≡ stepOf r (place - at) (nextOf m s (stateAt st r place count) r) = rw (left, as-own own place count, passed-seen) at took in
+          let same : step ≡ stepBehind r (place - at) (nextOf m s (stateAt st r place count) r) = rw (left, as-own own place count, passed-seen) at took in
           rw same (take-told (rw byte-seen at digit))
 
     -- a byte where nothing is passed

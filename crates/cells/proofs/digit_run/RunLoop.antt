@@ -22,7 +22,7 @@ use Rattle.reader.specs.ZeroSkip.{skipRefusal}
 use Rattle.reader.proofs.state.Refusals.{within, skip-admits}
 use Rattle.reader.proofs.state.Updates.{stateAt, own-count, sum-on}
 use Rattle.cells.specs.Value.{withDigit, valueFrom, valueOf}
-use Rattle.cells.specs.DigitRun.{Digits, RunOutcome, refusedRun, readRun, digitsFrom, digitsTaken, runRefusal, digitRunOf}
+use Rattle.cells.specs.DigitRun.{Digits, RunOutcome, refusedRun, readRun, digitsFrom, takenRun, runRefusal, digitRunOf}
 use Rattle.cells.specs.Code.Steps.{Stands, runAt, digitThen, Takes, Ends, stillRefused, endedRun}
 use Rattle.cells.proofs.value.Growing.{stays-above, radix-above}
 use Rattle.cells.proofs.digit_run.RefusedRuns.{next-refused}
@@ -32,7 +32,7 @@ module _ (x : Syntax) (s : List ℕ) (r : Reader) (st : State) where
   m = readingWith x
 
   abbrev all : Digits
-  all = digitsTaken m s st r
+  all = takenRun m s st r
 
   -- so many digits are taken and separators passed, they come to this value, and the run goes on from a place with a count
   pub record Running (at count value taken passed : ℕ) (refused : Bool) : Type 0 where

@@ -24,12 +24,12 @@ abbrev pub digitThen : ℕ → ℕ → Digits → Digits
 digitThen c over rest = record { digits = c ∷ rest .digits; passed = over + rest .passed; state = rest .state }
 
 -- what a take behind a peek comes to as a step: a byte, with the place and the count behind it, or none
-abbrev pub stepWith : Option ℕ → Reader → ℕ → Outcome → Step
-stepWith none r over o = step.Over (o .state .cursor) (over + o .passed)
-stepWith (some c) r over o = step.Taken c (o .state .cursor) (countOf (o .state) r) (over + o .passed)
+abbrev pub stepOfByte : Option ℕ → Reader → ℕ → Outcome → Step
+stepOfByte none r over o = step.Over (o .state .cursor) (over + o .passed)
+stepOfByte (some c) r over o = step.Taken c (o .state .cursor) (countOf (o .state) r) (over + o .passed)
 
-abbrev pub stepOf : Reader → ℕ → Outcome → Step
-stepOf r over o = stepWith (o .byte) r over o
+abbrev pub stepBehind : Reader → ℕ → Outcome → Step
+stepBehind r over o = stepOfByte (o .byte) r over o
 
 -- a place and a count that a reader's run has come to, from a state that is not refused
 pub record Stands (f : Flags) (s : List ℕ) (r : Reader) (st : State) (at count : ℕ) : Type 0 where
