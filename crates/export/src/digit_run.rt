@@ -102,7 +102,7 @@ pub struct GroupedRun {
 }
 
 fn not_grouped() -> GroupedRun
-    ensures { λ r. ⌜ r .«is_so» ≡ false ⌝ }
+    ensures { λ r. ⌜ r ≡ record { «is_so» = false; at = 0; value = 0; count = 0; passed = 0 } ⌝ }
 {
     GroupedRun {
         is_so: false,

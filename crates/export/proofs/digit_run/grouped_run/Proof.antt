@@ -43,14 +43,14 @@ not-grouped-requires c κs = search needs
 
 returns : tie.Need-returns Inv-loop μ-loop
 returns c =
-    λ so. absurd (false≢true (sym (c .not-grouped .ensures) ∙ so))
+    rw (c .not-grouped .ensures) (λ so. absurd (false≢true so))
 
 not-grouped-requires-2 : tie.Need-not-grouped-requires-2 Inv-loop μ-loop
 not-grouped-requires-2 c κs = search needs
 
 returns-2 : tie.Need-returns-2 Inv-loop μ-loop
 returns-2 c =
-    λ so. absurd (false≢true (sym (c .not-grouped2 .ensures) ∙ so))
+    rw (c .not-grouped2 .ensures) (λ so. absurd (false≢true so))
 
 shared-slice-read-c : tie.Need-shared-slice-read-c Inv-loop μ-loop
 shared-slice-read-c c =
@@ -61,7 +61,7 @@ not-grouped-requires-3 c κs = search needs
 
 returns-3 : tie.Need-returns-3 Inv-loop μ-loop
 returns-3 c =
-    λ so. absurd (false≢true (sym (c .not-grouped3 .ensures) ∙ so))
+    rw (c .not-grouped3 .ensures) (λ so. absurd (false≢true so))
 
 char-is-digit-by-range-requires : tie.Need-char-is-digit-by-range-requires Inv-loop μ-loop
 char-is-digit-by-range-requires c κs = search needs
@@ -71,7 +71,7 @@ not-grouped-requires-4 c κs = search needs
 
 returns-4 : tie.Need-returns-4 Inv-loop μ-loop
 returns-4 c =
-    λ so. absurd (false≢true (sym (c .not-grouped4 .ensures) ∙ so))
+    rw (c .not-grouped4 .ensures) (λ so. absurd (false≢true so))
 
 add-passed : tie.Need-add-passed Inv-loop μ-loop
 add-passed c =
@@ -111,7 +111,7 @@ not-grouped-requires-5 c κs = search needs
 
 returns-6 : tie.Need-returns-6 Inv-loop μ-loop
 returns-6 c =
-    λ so. absurd (false≢true (sym (c .not-grouped5 .ensures) ∙ so))
+    rw (c .not-grouped5 .ensures) (λ so. absurd (false≢true so))
 
 with-figure-requires : tie.Need-with-figure-requires Inv-loop μ-loop
 with-figure-requires c κs =
