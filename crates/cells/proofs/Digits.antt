@@ -3,12 +3,12 @@ use mathlib.Core.Path.{_≡_, _∙_, refl, sym, ap}
 use mathlib.Core.Bool.{Bool, true, false, cond, false≢true}
 use mathlib.Core.List.{List, [], _∷_, _++_}
 use mathlib.Core.Option.{Option, some, none}
-use Prim.Native.Nat.{ℕ, zero, suc, _+_}
+use Prim.Native.Nat.{ℕ, zero, suc, _+_, _<_}
 use native.Mathlib.Omega.{arith}
-use borrow.Author.Tests.{eqb-true}
+use borrow.Author.Tests.{eqb-true, ltb-true}
 use lib.Dec.{eqb}
 use lib.ListN.{length}
-use Rattle.word.specs.Digit.{isDigit}
+use Rattle.word.specs.Digit.{below, digitValue, isDigit}
 use Rattle.reader.specs.declared.state.Reader.{Reader}
 use Rattle.reader.specs.declared.state.State.{State}
 use Rattle.reader.specs.declared.passing.Syntax.{Syntax}
@@ -22,6 +22,10 @@ use Rattle.reader.proofs.state.Refusals.{within, still-admitted, peek-admitted,
 use Rattle.reader.proofs.state.Updates.{count-moved}
 use Rattle.cells.specs.DigitRun.{seesDigit, digitsFrom}
 use Rattle.cells.proofs.TwicePassed.{digit-behind}
+
+abbrev pub isSome : Option ℕ → Bool
+isSome none = false
+isSome (some v) = true
 
 -- a test holds of every member
 abbrev pub Every : (ℕ → Bool) → List ℕ → Type 0
@@ -99,3 +103,19 @@ module _ (x : Syntax) (s : List ℕ) (r : Reader) where
         → Every (λ b. isDigit b (x .radix)) (digitsFrom (suc n) m s r st .digits)
     go false e rest = rw e tt
     go true e rest = rw e (joined _ (nextOf m s (peekOf m s st r .state) r .byte) (digit-taken st e) rest)
+
+-- so each has a value, in a radix of eight bits: above that every byte is a digit
+has-value : (b radix : ℕ) → radix < 256 → isDigit b radix ≡ true → isSome (digitValue b) ≡ true
+unfolding isDigit
+has-value b radix small = go (digitValue b) where
+  go : (o : Option ℕ) → below o radix ≡ true → isSome o ≡ true
+  go none h = absurd (omega (arith, ltb-true 255 radix h))
+  go (some d) h = refl
+
+each-has-value : (radix : ℕ) → radix < 256 → (digits : List ℕ) → Every (λ b. isDigit b radix) digits → Every (λ b. isSome (digitValue b)) digits
+each-has-value radix small [] all = tt
+each-has-value radix small (b ∷ rest) all = (has-value b radix small (all .0), each-has-value radix small rest (all .1))
+
+pub digits-have-values : (x : Syntax) (s : List ℕ) (r : Reader) (n : ℕ) (st : State) → x .radix < 256
+    → Every (λ b. isSome (digitValue b)) (digitsFrom n (readingWith x) s r st .digits)
+digits-have-values x s r n st small = each-has-value (x .radix) small (digitsFrom n (readingWith x) s r st .digits) (digits-are-digits x s r n st)

@@ -1,13 +1,10 @@
 -- The value of digits, for every radix together (document 02, 2026-01). Assumes nothing.
-use Prim.Native.Nat.{ℕ, _+_, _*_, _^_}
-use mathlib.Core.Bool.{cond}
+use Prim.Native.Nat.{ℕ, _+_, _*_}
 use mathlib.Core.List.{List, [], _∷_}
 use mathlib.Core.Option.{Option, some, none}
-use lib.Dec.{ltb}
 use Rattle.word.specs.Digit.{digitValue}
-use Rattle.cells.specs.declared.value.Grown.{Grown}
 
--- one digit behind others that have the value v; no run takes a byte without a value (digits-are-digits, proofs/Digits)
+-- one digit behind others that have the value v; no run takes a byte without a value (digits-have-values, proofs/Digits)
 abbrev pub withDigit : ℕ → ℕ → Option ℕ → ℕ
 withDigit radix v (some d) = v * radix + d
 withDigit radix v none = v
@@ -18,7 +15,3 @@ valueFrom radix v (b ∷ rest) = valueFrom radix (withDigit radix v (digitValue 
 
 unfoldable pub valueOf : ℕ → List ℕ → ℕ
 valueOf radix digits = valueFrom radix 0 digits
-
--- whether a value has 64 bits, and then the value
-unfoldable pub grownTo : ℕ → Grown
-grownTo v = record { fits = ltb v (2 ^ 64); value = cond (ltb v (2 ^ 64)) v 0 }

@@ -2,7 +2,8 @@
 ghost use mathlib.Core.Path.{_≡_};
 ghost use Prim.Native.Nat.{_+_, _*_, _<_};
 ghost use Rattle.word.specs.Digit.{digitValue};
-ghost use Rattle.cells.specs.Value.{withDigit, grownTo};
+ghost use Rattle.cells.specs.Value.{withDigit};
+ghost use Rattle.cells.specs.Code.Growth.{grownTo};
 use word::digit::DigitValue;
 use word::digit::digit_value;
 

@@ -1,3 +1,3 @@
 -- Laws of the quick way of takes to the end (src/next_all.rt).
 mod GroupedCells
-pub mod EndWords
+mod EndWords

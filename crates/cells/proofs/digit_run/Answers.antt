@@ -24,14 +24,14 @@ use Rattle.reader.specs.Code.TakeSums.{withCount}
 use Rattle.reader.specs.Answer.{Outcome, outcomeOf, peekOutcomeOf, seenByte}
 use Rattle.reader.specs.Calls.{peekOf, nextOf}
 use Rattle.reader.proofs.passing.Places.{byte-here, no-byte, no-separator}
-use Rattle.reader.proofs.passing.Landings.{stays-on-other}
+use Rattle.reader.proofs.passing.Landings.{stays-on-other, stays-at-end}
 use Rattle.reader.proofs.state.Updates.{stateAt, at-cursor, counted-tells}
 use Rattle.reader.proofs.ByteTally.Steps.{take-step}
 use Rattle.cells.specs.declared.digit_run.Step.{Step}
 use Rattle.cells.specs.declared.digit_run.Step.the-variants as step
 use Rattle.cells.specs.DigitRun.{seesDigit}
 use Rattle.cells.specs.Code.Steps.{stepOfByte, stepBehind, Stands, StepTold, Takes, Ends}
-use Rattle.cells.proofs.digit_run.Stepping.{end-passes-none, further, sees, takes-byte, takes-none, place-inside, ends, countBehind, takes, ends-behind}
+use Rattle.cells.proofs.digit_run.Stepping.{further, sees, takes-byte, takes-none, place-inside, ends, countBehind, takes, ends-behind}
 
 -- a place and a count leave what of the state says how it is read
 sheet-stays : (st : State) (r : Reader) (at count : ℕ) → sheetOf (stateAt st r at count) ≡ sheetOf st
@@ -179,6 +179,6 @@ module _ (x : Syntax) (s : List ℕ) (r : Reader) (st : State) where
 
     pub end-over : length s ≤ at → Ends m s r st at count at 0
     end-over out =
-        let stays : at ≡ at + passedAt m s (eqb count 0) at = rw (end-passes-none m s (eqb count 0) at out) (omega arith) in
+        let stays : at ≡ at + passedAt m s (eqb count 0) at = stays-at-end x s (eqb count 0) at out in
         let none-passed : at - at ≡ 0 = omega arith in
         rw none-passed at (ends m s r st at count stands at stays (rw (no-byte s at out)))

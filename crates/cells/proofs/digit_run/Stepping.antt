@@ -12,7 +12,7 @@ use Rattle.reader.specs.declared.state.Reader.{Reader}
 use Rattle.reader.specs.declared.state.Reader.the-variants.{Integer, Fraction, Exponent, Special}
 use Rattle.reader.specs.declared.state.State.{State}
 use Rattle.reader.specs.Place.{byteAt}
-use Rattle.reader.specs.Reading.{Reading, hasAnyFlag, mayPass, passedAt}
+use Rattle.reader.specs.Reading.{Reading, hasAnyFlag, passedAt}
 use Rattle.reader.specs.State.{countSum, movedTo, countedBy}
 use Rattle.reader.specs.Code.TakeSums.{withCount}
 use Rattle.reader.specs.Calls.{peekOf, takenFrom, nextOf}
@@ -30,11 +30,6 @@ sum-stays st Integer at to count = refl
 sum-stays st Fraction at to count = refl
 sum-stays st Exponent at to count = refl
 sum-stays st Special at to count = refl
-
--- nothing is passed at the end
-pub end-passes-none : (m : Reading) (s : List ℕ) (isFirst : Bool) (at : ℕ) → length s ≤ at → passedAt m s isFirst at ≡ 0
-unfolding passedAt mayPass
-end-passes-none m s isFirst at out = rw (no-byte s at out)
 
 -- where a digit is seen there is a byte
 pub digit-inside : (m : Reading) (s : List ℕ) (at : ℕ) → seesDigit m (byteAt s at) ≡ true → at < length s
@@ -132,7 +127,7 @@ module _ (m : Reading) (s : List ℕ) (r : Reader) (st : State) where
     stops-behind out zero enough = absurd (omega (arith, enough, lands, digit-inside m s place digit))
     stops-behind out (suc n) enough =
         let at-end = further place count on to (omega (arith, again)) (place-inside place count on to again) in
-        let stays : to ≡ to + passedAt m s (eqb count 0) to = rw (end-passes-none m s (eqb count 0) to out) (omega arith) in
+        let stays : to ≡ to + passedAt m s (eqb count 0) to = omega (arith, out, passed-fits m s (eqb count 0) to (at-end .inside)) in
         let none-seen : seesDigit m (byteAt s to) ≡ false = rw (no-byte s to out) in
         let nothing : place - at + (to - place) + (to - to) ≡ place - at + (to - place) = omega arith in
         rw (sees at count here place lands, digit, takes-none place count on to again out, stops to count at-end to stays none-seen n, nothing)

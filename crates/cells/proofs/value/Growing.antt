@@ -11,7 +11,8 @@ use borrow.Author.Tests.{lt-ltb, le-ltb, ltb-true, ltb-false, leb-true}
 use Rattle.word.specs.Digit.{among, digitValue}
 use Rattle.reader.proofs.passing.Places.{none-there}
 use Rattle.cells.specs.declared.value.Grown.{Grown}
-use Rattle.cells.specs.Value.{withDigit, valueFrom, grownTo}
+use Rattle.cells.specs.Value.{withDigit, valueFrom}
+use Rattle.cells.specs.Code.Growth.{grownTo}
 use Rattle.cells.proofs.Booleans.{both}
 
 -- a number up to a bound times a radix of eight bits

@@ -1,36 +1,34 @@
 -- The loop over the digits of a grouped cell has the numbers of a digit run: for `grouped_run`. Assumes nothing.
 use mathlib.Core.Path.{_≡_, _∙_, refl, sym, ap}
-use mathlib.Core.Bool.{Bool, true, false, cond, not, _&&_, and-eq-true-iff}
-use mathlib.Core.List.{List, [], _∷_}
+use mathlib.Core.Bool.{Bool, true, false, cond, and-eq-true-iff}
+use mathlib.Core.List.{List}
 use mathlib.Core.Option.{some, none}
 use Prim.Native.Nat.{ℕ, _+_, _*_, _-_, _<_, _≤_, _^_, min}
 use native.Mathlib.Nat.{add-zero}
 use native.Mathlib.Omega.{arith}
 use lib.Dec.{leb, ltb, eqb}
 use lib.ListN.{length, getD}
-use borrow.Author.Tests.{le-leb, leb-true, ltb-true, ne-eqb}
+use borrow.Author.Tests.{leb-true, ltb-true, ne-eqb}
 use Rattle.word.specs.declared.format_flags.Format.{Format}
 use Rattle.word.specs.Digit.{among, below, digitValue, isDigit}
-use Rattle.word.specs.Check.{line, firstFailing}
 use Rattle.reader.specs.declared.state.Reader.{Reader}
-use Rattle.reader.specs.declared.state.State.{State}
 use Rattle.reader.specs.declared.passing.Syntax.{Syntax}
 use Rattle.reader.specs.Place.{byteAt}
 use Rattle.reader.specs.Reading.{readingWith, hasAnyFlag, passedAt}
-use Rattle.reader.specs.State.{freshOf, isCounted}
-use Rattle.reader.specs.Calls.{consecutiveNumber}
+use Rattle.reader.specs.State.{freshOf}
 use Rattle.reader.specs.ZeroSkip.{skipRefusal}
 use Rattle.reader.proofs.passing.Places.{byte-here, no-separator}
 use Rattle.reader.proofs.passing.Landings.{stays-on-other}
 use Rattle.reader.proofs.state.Updates.{stateAt, fresh-count}
 use Rattle.cells.specs.Value.{withDigit}
-use Rattle.cells.specs.DigitRun.{RunOutcome, seesDigit, digitRunOf}
-use Rattle.cells.specs.Code.Steps.{Ends, endedRun}
+use Rattle.cells.specs.DigitRun.{seesDigit, digitRunOf}
+use Rattle.cells.specs.Code.Steps.{Ends}
 use Rattle.cells.proofs.digit_run.Answers.{plain-taken, plain-over, end-over}
 use Rattle.cells.proofs.digit_run.RunLoop.{Running, unknown, running-starts, running-on, running-over}
 use Rattle.cells.proofs.digit_run.PassedAhead.{running-past}
 use Rattle.export.specs.Code.GroupedCell.{Between}
 use Rattle.export.proofs.DigitBehind.{lands-between}
+use Rattle.export.proofs.FreshCells.{fresh-clear}
 
 -- a decimal digit is a figure
 figure-value : (c : ℕ) → isDigit c 10 ≡ true → ((48 ≤ c) × (c ≤ 57)) × (digitValue c ≡ some (c - 48))
@@ -56,13 +54,8 @@ pub is-figure : (c : ℕ) → isDigit c 10 ≡ true → (48 ≤ c) × (c ≤ 57)
 is-figure c digit = figure-value c digit .0
 
 module _ (separator : ℕ) (s : List ℕ) (x : Syntax) (f : Format) (r : Reader) (b : Between x separator 10 r) where
-  -- a run from a fresh state is not refused to such a reader
   clear : skipRefusal (x .flags) s (freshOf f) r ≡ 0
-  unfolding skipRefusal
-  clear = rw (le-leb 0 (length s) (omega arith), b .counted, b .internal) (go (x .flags .consecutive)) where
-    go : (c : Bool) → firstFailing (line (consecutiveNumber r) (not (c && false && not (x .flags .leading) && not (x .flags .trailing))) ∷ []) ≡ 0
-    go true = refl
-    go false = refl
+  clear = fresh-clear x s f r (b .internal) (b .counted)
 
   -- nothing is passed at a byte that is no separator
   passes-none : (isFirst : Bool) (at : ℕ) → at < length s → (getD s at 0 ≡ separator → ⊥) → passedAt (readingWith x) s isFirst at ≡ 0

@@ -9,38 +9,31 @@ use lib.ListN.{getD}
 use Rattle.word.specs.declared.format_flags.Format.{Format}
 use Rattle.word.specs.Word.{flag, digitSeparator, mantissaRadix}
 use Rattle.reader.specs.declared.state.Reader.{Reader}
-use Rattle.reader.specs.Reading.{flagsOf, syntaxOf, syntaxOn}
+use Rattle.reader.specs.Reading.{syntaxOf, syntaxOn}
 use Rattle.reader.specs.State.{freshOf}
 use Rattle.reader.proofs.state.Updates.{stateAt}
-use Rattle.export.specs.State.{stateIn, stateWords, readerOn}
+use Rattle.export.specs.State.{stateWords}
 use Rattle.export.specs.Answer.{valueWords}
 use Rattle.export.specs.Calls.{digitRunBy}
-use Rattle.export.specs.Code.GroupedCell.{Between}
 use Rattle.export.specs.Code.GroupedRun.{GroupedRun}
-use Rattle.export.proofs.here.CountedReaders.{counted-reader, named-on, end-words}
+use Rattle.export.proofs.FreshCells.{word-in, reader-in, fresh-in, reader-of, between-in}
+use Rattle.export.proofs.here.CountedReaders.{end-words}
 
 module _ (n : ℕ) (w s : List ℕ) (low : n ≤ 2) (edition : getD w 7 0 ≡ 0)
     (cursor : getD w 2 0 ≡ 0) (integer : getD w 3 0 ≡ 0) (fraction : getD w 4 0 ≡ 0) (exponent : getD w 5 0 ≡ 0) where
   abbrev f : Format
-  f = record { lo = getD w 0 0; hi = getD w 1 0 }
+  f = word-in n w low
 
   abbrev r : Reader
-  r = counted-reader n low .reader
-
-  fresh : stateIn w ≡ freshOf f
-  fresh = rw (cursor, integer, fraction, exponent) refl
-
-  by : readerOn n (getD w 7 0) ≡ some r
-  by = named-on n (getD w 7 0) low (rw edition)
+  r = reader-in n w low
 
   module _ (at value count passed : ℕ) (positive : 0 < digitSeparator f) (internal : flag f (32 + n) ≡ true)
       (decimal : mantissaRadix f ≡ 10) (run : GroupedRun (digitSeparator f) 10 s at value count passed) where
     read : digitRunBy n w s ≡ record { refusal = 0; value = some value; taken = count; passed = passed; state = stateAt (freshOf f) r at count }
     unfolding digitRunBy syntaxOn syntaxOf
     read =
-        rw (by, fresh)
-        (sym (run (syntaxOf f r) f r
-        (record { own-separator = refl; own-radix = decimal; internal = rw (counted-reader n low .flags f) internal; counted = counted-reader n low .counts; positive = positive })))
+        rw (reader-of n w low edition, fresh-in n w low cursor integer fraction exponent)
+        (sym (run (syntaxOf f r) f r (between-in n w low 10 decimal positive internal)))
 
     pub run-written : (old : List ℕ)
         → (0 ≡ digitRunBy n w s .refusal)

@@ -1,53 +1,41 @@
 -- The words that are written where a grouped cell is taken by numbers are those of the call: for `pawhetino_next_all`. Assumes nothing.
 use mathlib.Core.Path.{_≡_, _∙_, refl, sym}
-use mathlib.Core.Bool.{true, false, cond, not}
+use mathlib.Core.Bool.{true, cond}
 use mathlib.Core.List.{List, [], _∷_}
-use mathlib.Core.Option.{some}
 use Prim.Native.Nat.{ℕ, _+_, _-_, _<_, _≤_}
 use native.Mathlib.Omega.{arith}
-use lib.Dec.{eqb, ltb}
+use lib.Dec.{eqb}
 use lib.ListN.{length, getD}
-use borrow.Author.Tests.{eqb-true, not-false}
 use Rattle.word.specs.declared.format_flags.Format.{Format}
 use Rattle.word.specs.Word.{flag, digitSeparator, mantissaRadix}
 use Rattle.reader.specs.declared.state.Reader.{Reader}
-use Rattle.reader.specs.Reading.{flagsAt, flagsOf, syntaxOf, syntaxOn, readingFor}
+use Rattle.reader.specs.Reading.{syntaxOf, syntaxOn, readingFor}
 use Rattle.reader.specs.State.{freshOf}
 use Rattle.reader.specs.Answer.{Outcome}
 use Rattle.reader.specs.Calls.{nextAllOf}
 use Rattle.reader.specs.Code.TakeSums.{sumsOutcome}
-use Rattle.export.specs.State.{stateIn, stateWords, isEdition, readerOn}
+use Rattle.export.specs.State.{stateWords}
 use Rattle.export.specs.Answer.{byteWords}
 use Rattle.export.specs.Calls.{takenAllBy}
-use Rattle.export.specs.Code.GroupedCell.{Between, GroupedCell}
-use Rattle.export.proofs.here.CountedReaders.{counted-reader, named-on, end-words}
-
--- a number that is not told to be other than 0 is 0
-pub is-zero : (n : ℕ) → not (eqb n 0) ≡ false → n ≡ 0
-is-zero n e = eqb-true n 0 (not-false _ e)
+use Rattle.export.specs.Code.GroupedCell.{GroupedCell}
+use Rattle.export.proofs.FreshCells.{word-in, reader-in, fresh-in, reader-of, between-in}
+use Rattle.export.proofs.here.CountedReaders.{end-words}
 
 module _ (n : ℕ) (w s : List ℕ) (low : n ≤ 2) (edition : getD w 7 0 ≡ 0)
     (cursor : getD w 2 0 ≡ 0) (integer : getD w 3 0 ≡ 0) (fraction : getD w 4 0 ≡ 0) (exponent : getD w 5 0 ≡ 0) where
   abbrev f : Format
-  f = record { lo = getD w 0 0; hi = getD w 1 0 }
+  f = word-in n w low
 
   abbrev r : Reader
-  r = counted-reader n low .reader
-
-  fresh : stateIn w ≡ freshOf f
-  fresh = rw (cursor, integer, fraction, exponent) refl
-
-  by : readerOn n (getD w 7 0) ≡ some r
-  by = named-on n (getD w 7 0) low (rw edition)
+  r = reader-in n w low
 
   module _ (count passed : ℕ) (positive : 0 < digitSeparator f) (internal : flag f (32 + n) ≡ true)
       (cell : GroupedCell (digitSeparator f) (mantissaRadix f) s count passed) where
     taken-all : takenAllBy n w s ≡ sumsOutcome (freshOf f) r (record { at = length s; count = count; passed = passed })
     unfolding takenAllBy syntaxOn syntaxOf
     taken-all =
-        rw (by, fresh)
-        (sym (cell (syntaxOf f r) f r
-        (record { own-separator = refl; own-radix = refl; internal = rw (counted-reader n low .flags f) internal; counted = counted-reader n low .counts; positive = positive })))
+        rw (reader-of n w low edition, fresh-in n w low cursor integer fraction exponent)
+        (sym (cell (syntaxOf f r) f r (between-in n w low (mantissaRadix f) refl positive internal)))
 
     pub end-written : (old : List ℕ)
         → (0 ≡ takenAllBy n w s .refusal)

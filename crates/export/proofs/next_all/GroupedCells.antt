@@ -1,40 +1,33 @@
 -- The loop over a grouped cell has the numbers of its takes: for `grouped_cell`. Assumes nothing.
 use mathlib.Core.Path.{_≡_, refl, sym}
-use mathlib.Core.Bool.{Bool, true, false, cond, not, _&&_}
-use mathlib.Core.List.{List, [], _∷_}
+use mathlib.Core.Bool.{true, cond, _&&_}
+use mathlib.Core.List.{List}
 use Prim.Native.Nat.{ℕ, _+_, _-_, _<_, _≤_}
 use native.Mathlib.Omega.{arith}
-use lib.Dec.{leb, eqb}
+use lib.Dec.{eqb}
 use lib.ListN.{length, getD}
-use borrow.Author.Tests.{le-leb, ne-eqb}
+use borrow.Author.Tests.{ne-eqb}
 use Rattle.word.specs.declared.format_flags.Format.{Format}
 use Rattle.word.specs.Digit.{isDigit}
-use Rattle.word.specs.Check.{line, firstFailing}
 use Rattle.reader.specs.declared.state.Reader.{Reader}
 use Rattle.reader.specs.declared.passing.Syntax.{Syntax}
 use Rattle.reader.specs.Reading.{readingWith, hasAnyFlag}
 use Rattle.reader.specs.State.{freshOf, isCounted}
 use Rattle.reader.specs.Code.TakeSums.{sumsOutcome}
-use Rattle.reader.specs.Calls.{consecutiveNumber, refusalWith, nextAllOf}
+use Rattle.reader.specs.Calls.{refusalWith, nextAllOf}
 use Rattle.reader.proofs.passing.Places.{no-separator}
 use Rattle.reader.proofs.passing.Landings.{stays-on-other}
+use Rattle.reader.proofs.state.Refusals.{skip-admits}
 use Rattle.reader.proofs.state.Updates.{fresh-count}
 use Rattle.reader.proofs.skip.TakeLoop.{Running, running-starts, running-on, running-out}
 use Rattle.export.specs.Code.GroupedCell.{Between}
 use Rattle.export.proofs.DigitBehind.{lands-between}
-
--- a fresh state is not refused to such a reader
-fresh-clear : (x : Syntax) (s : List ℕ) (f : Format) (r : Reader) → x .flags .internal ≡ true → refusalWith (x .flags) s (freshOf f) r ≡ 0
-unfolding refusalWith
-fresh-clear x s f r internal = rw (le-leb 0 (length s) (omega arith), internal) (go (x .flags .consecutive)) where
-  go : (c : Bool) → firstFailing (line (consecutiveNumber r) (not (c && false && not (x .flags .leading) && not (x .flags .trailing))) ∷ []) ≡ 0
-  go true = refl
-  go false = refl
+use Rattle.export.proofs.FreshCells.{fresh-clear}
 
 -- The loop's numbers, for every such reader.
 module _ (separator radix : ℕ) (s : List ℕ) (x : Syntax) (f : Format) (r : Reader) (b : Between x separator radix r) where
   clear : refusalWith (x .flags) s (freshOf f) r ≡ 0
-  clear = fresh-clear x s f r (b .internal)
+  clear = skip-admits (x .flags) s (freshOf f) r (fresh-clear x s f r (b .internal) (b .counted)) .1
 
   counts : (c : ℕ) → ((hasAnyFlag (x .flags) && isCounted r) && isDigit c (x .radix)) ≡ isDigit c radix
   counts c = rw (b .internal, b .counted, b .own-radix) refl

@@ -6,7 +6,7 @@ use lib.ListN.{getD}
 use native.Mathlib.Omega.{arith}
 use borrow.Author.Tests.{not-false, ltb-false}
 use Rattle.export.proofs.Booleans.{left-fails, right-fails}
-use Rattle.export.proofs.next_all.EndWords.{is-zero}
+use Rattle.export.proofs.FreshCells.{is-zero}
 use Rattle.export.proofs.digit_run.RunWords.{run-written}
 use borrow.Author.Needs.{needs}
 use Rattle.export.proofs.digit_run.pawhetino_digit_run.Statement.{statement}

@@ -6,7 +6,8 @@ use lib.ListN.{getD}
 use native.Mathlib.Omega.{arith}
 use borrow.Author.Tests.{not-false, ltb-false}
 use Rattle.export.proofs.Booleans.{left-fails, right-fails}
-use Rattle.export.proofs.next_all.EndWords.{is-zero, end-written}
+use Rattle.export.proofs.FreshCells.{is-zero}
+use Rattle.export.proofs.next_all.EndWords.{end-written}
 use borrow.Author.Needs.{needs}
 use Rattle.export.proofs.next_all.pawhetino_next_all.Statement.{statement}
 use Rattle.export.proofs.next_all.pawhetino_next_all.Tie as tie
