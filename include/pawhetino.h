@@ -228,6 +228,13 @@ uint32_t pawhetino_next_all_column(
     const uint8_t *s, size_t len, const size_t *ends, size_t cells, uint64_t lo, uint64_t hi, uint8_t reader,
     size_t *taken, size_t *passed, size_t *digits);
 
+/* The end of a run: of bytes equal to a separator, from place at of s on without a break. It is sought as the readers seek it,
+ * eight bytes at a time as one 64-bit number and the tail singly. Written are *end, the place behind the run, and the steps:
+ * *eights over eight bytes, *ones over one. For k separators these are at + k, k / 8 rounded down, and k % 8. Nothing is refused:
+ * with separator 0, which stands for none, and where at is at or past the end of s, they are at, 0 and 0. */
+void pawhetino_run_end(
+    const uint8_t *s, size_t len, uint8_t separator, size_t at, size_t *end, size_t *eights, size_t *ones);
+
 /* The byte under a plain reader's cursor. It passes nothing, all four readers are alike, and its state is the cursor alone. Refused
  * with 19 for another reader, then with 16; cursor and answer are then as in a refused reader call. */
 uint32_t pawhetino_plain_peek(const uint8_t *s, size_t len, uint8_t reader, size_t *cursor, uint64_t answer[4]);

@@ -1,6 +1,7 @@
 /* Arbitrary words, states, readers and buffers through every function of the library, from C, each held to what the header
  * promises (checks.h). Slices and places lie against pages that cannot be read, so that a step beside one is a crash, and a crash
- * or a hang is told with its seed, round and function. First the header's own constants are held to the library (constants.h).
+ * or a hang is told with its seed, round and function. First the header's own constants are held to the library (constants.h), and
+ * the search for the end of a run to what it promises of every short run (short_runs.h).
  *
  *   boundary [--heap] [--rounds N] [SEED..]   so many inputs for each seed; the same seeds give the same inputs
  *   boundary --self-test                      whether faults put in place of the library's functions are found (wrong.c)
@@ -20,23 +21,30 @@
 #include "draw.h"
 #include "lay.h"
 #include "self_test.h"
+#include "short_runs.h"
 
 /* Every number that can be returned: by the checks 0 to 15, by pawhetino_fresh 0 to 14 and 19, by the calls 0, 12 to 14, 16 to
  * 19, 23 and 24. So many inputs of a seed must have brought them all about. */
 static const struct numbers_seen all_numbers = {0xFFFF, 0x87FFF, 0x18F7001};
 enum { ROUNDS_FOR_ALL_NUMBERS = 20000 };
 
-enum { DEFAULT_ROUNDS = 100000, ROUNDS_PER_TIMER = 500 };
+/* A function that computes for so many seconds is taken to hang. */
+enum { DEFAULT_ROUNDS = 100000, ROUNDS_PER_TIMER = 500, SECONDS = 60 };
 
 static const uint64_t default_seeds[] = {1, UINT64_C(0x5041574845544942)};
 
-/* Which input is being tried. */
+/* Which input is being tried: of those drawn from a seed, or of the short runs, which have none. */
+static bool is_drawn;
 static uint64_t seed_now, round_now;
 
 static bool uses_heap;
 
 _Noreturn void report_broken(const struct input *in, const char *promise) {
-    fprintf(stderr, "boundary: seed 0x%" PRIX64 ", round %" PRIu64 ", %s: broken: %s\n", seed_now, round_now, running, promise);
+    if (is_drawn)
+        fprintf(stderr, "boundary: seed 0x%" PRIX64, seed_now);
+    else
+        fprintf(stderr, "boundary: short runs");
+    fprintf(stderr, ", round %" PRIu64 ", %s: broken: %s\n", round_now, running, promise);
     fprintf(stderr, "boundary: reader %u, state", in->reader);
     for (int i = 0; i < 8; i++) fprintf(stderr, " 0x%" PRIX64, in->state[i]);
     fprintf(stderr, "\nboundary: value 0x%02X n %zu %zu cells, %zu bytes:", in->value, in->n, in->cells, in->len);
@@ -57,8 +65,9 @@ static void say_number(uint64_t number) {
 }
 
 static void on_signal(int signal) {
-    say("boundary: seed ");
-    say_number(seed_now);
+    say("boundary: ");
+    say(is_drawn ? "seed " : "short runs");
+    if (is_drawn) say_number(seed_now);
     say(", round ");
     say_number(round_now);
     say(", ");
@@ -77,20 +86,24 @@ static void catch_signals(void) {
     for (size_t i = 0; i < sizeof signals / sizeof *signals; i++) sigaction(signals[i], &action, NULL);
 }
 
-/* The input of a round, once against each of the two pages. */
-static void check_round(const struct functions *functions) {
-    static struct drawn drawn;
-    draw(&drawn, seed_now, round_now);
+/* An input once against each of the two pages, or on the heap. */
+static void check_laid(const struct functions *functions, struct input *in, typeof(check_all) *check) {
     if (uses_heap) {
-        lay_on_the_heap(&drawn.input);
-        check_all(functions, &drawn.input);
-        free_from_the_heap(&drawn.input);
+        lay_on_the_heap(in);
+        check(functions, in);
+        free_from_the_heap(in);
         return;
     }
     for (int at_end = 0; at_end < 2; at_end++) {
-        lay_against_pages(&drawn.input, at_end);
-        check_all(functions, &drawn.input);
+        lay_against_pages(in, at_end);
+        check(functions, in);
     }
+}
+
+static void check_round(const struct functions *functions) {
+    static struct drawn drawn;
+    draw(&drawn, seed_now, round_now);
+    check_laid(functions, &drawn.input, check_all);
 }
 
 /* Seconds of this process alone, so that a slow machine does not look like a hang. 0 stops the timer. */
@@ -99,7 +112,19 @@ static void start_timer(unsigned seconds) {
     setitimer(ITIMER_VIRTUAL, &timer, NULL);
 }
 
+void check_short_runs(const struct functions *functions, unsigned seconds) {
+    static struct drawn drawn;
+    is_drawn = false;
+    catch_signals();
+    for (round_now = 0; short_run(&drawn, round_now); round_now++) {
+        if (round_now % ROUNDS_PER_TIMER == 0) start_timer(seconds);
+        check_laid(functions, &drawn.input, check_run_ends);
+    }
+    start_timer(0);
+}
+
 void check_seed(const struct functions *functions, uint64_t seed, uint64_t rounds, unsigned seconds) {
+    is_drawn = true;
     seed_now = seed;
     catch_signals();
     for (round_now = 0; round_now < rounds; round_now++) {
@@ -120,10 +145,16 @@ static uint64_t number_of(const char *argument) {
     return number;
 }
 
+static const char *where_laid(void) { return uses_heap ? "on the heap" : "each against two pages"; }
+
+static void run_short_runs(void) {
+    check_short_runs(&library, SECONDS);
+    printf("boundary: %" PRIu64 " short runs, %s: every promise holds\n", round_now, where_laid());
+}
+
 static void run(uint64_t seed, uint64_t rounds) {
-    check_seed(&library, seed, rounds, 60);
-    printf("boundary: seed 0x%" PRIX64 ", %" PRIu64 " inputs, %s: every promise holds\n", seed, rounds,
-           uses_heap ? "on the heap" : "each against two pages");
+    check_seed(&library, seed, rounds, SECONDS);
+    printf("boundary: seed 0x%" PRIX64 ", %" PRIu64 " inputs, %s: every promise holds\n", seed, rounds, where_laid());
 }
 
 /* Whether all of these were returned; else those that were are told. */
@@ -153,6 +184,7 @@ int main(int count, char **arguments) {
         next += 2;
     }
     if (!constants_hold()) return 1;
+    run_short_runs();
     if (next == count)
         for (size_t i = 0; i < sizeof default_seeds / sizeof *default_seeds; i++) run(default_seeds[i], rounds);
     for (; next < count; next++) run(number_of(arguments[next]), rounds);

@@ -20,6 +20,7 @@ const struct functions library = {
     .current_count = pawhetino_current_count,
     .plain_peek = pawhetino_plain_peek,
     .plain_next = pawhetino_plain_next,
+    .run_end = pawhetino_run_end,
 };
 
 const char *volatile running = "nothing";
@@ -37,5 +38,6 @@ void check_number(const struct input *in, uint32_t number, uint32_t due, uint32_
 void check_all(const struct functions *functions, const struct input *in) {
     check_words_and_bytes(functions, in);
     check_calls(functions, in);
+    check_run_ends(functions, in);
     running = "nothing";
 }

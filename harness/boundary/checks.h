@@ -18,6 +18,7 @@ struct functions {
     typeof(pawhetino_take_n) *take_n;
     typeof(pawhetino_current_count) *current_count;
     typeof(pawhetino_plain_peek) *plain_peek, *plain_next;
+    typeof(pawhetino_run_end) *run_end;
 };
 
 extern const struct functions library;
@@ -48,6 +49,9 @@ struct input {
 
 /* Every function with this input. The first promise that is broken goes to report_broken. */
 void check_all(const struct functions *functions, const struct input *in);
+
+/* The same for the end of a run alone, from the places n and cursor. */
+void check_run_ends(const struct functions *functions, const struct input *in);
 
 /* The numbers that have been returned so far, each as a bit: by the two checks of a word, by pawhetino_fresh, by the calls. */
 struct numbers_seen {

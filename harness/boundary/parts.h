@@ -48,7 +48,7 @@ struct run {
 /* The refusal that is due of a digit run, or 0, with what it comes to. */
 uint32_t due_of_run(const struct input *in, struct run *run);
 
-/* The two halves of check_all. */
+/* What check_all does besides check_run_ends. */
 void check_words_and_bytes(const struct functions *f, const struct input *in);
 void check_calls(const struct functions *f, const struct input *in);
 

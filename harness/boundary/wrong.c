@@ -18,6 +18,10 @@
                          uint8_t reader, size_t *taken, size_t *passed, size_t *digits)
 #define COLUMN_ARGUMENTS s, len, ends, cells, lo, hi, reader, taken, passed, digits
 
+#define RUN_END(name)                                                                                                      \
+    static void name(const uint8_t *s, size_t len, uint8_t separator, size_t at, size_t *end, size_t *eights, size_t *ones)
+#define RUN_END_ARGUMENTS s, len, separator, at, end, eights, ones
+
 /* What is read only to be read. */
 static volatile uint64_t seen;
 
@@ -63,6 +67,22 @@ COLUMN(writes_behind_a_number) {
     return pawhetino_next_all_column(COLUMN_ARGUMENTS);
 }
 
+RUN_END(reads_past_the_end_of_a_run) {
+    seen = s[len];
+    pawhetino_run_end(RUN_END_ARGUMENTS);
+}
+
+/* As where the last eight bytes of a run are read whether or not there are so many. */
+RUN_END(reads_the_tail_as_eight) {
+    pawhetino_run_end(RUN_END_ARGUMENTS);
+    if (at < len) seen = s[at + *eights * 8 + 7];
+}
+
+RUN_END(writes_behind_the_steps) {
+    ones[1] = 0;
+    pawhetino_run_end(RUN_END_ARGUMENTS);
+}
+
 CALL(hangs) {
     while (len > 0) seen = s[0];
     return pawhetino_peek(ARGUMENTS);
@@ -98,6 +118,11 @@ COLUMN(changes_the_ends) {
     uint32_t number = pawhetino_next_all_column(COLUMN_ARGUMENTS);
     if (cells > 0) ((size_t *)ends)[0] += 1;
     return number;
+}
+
+RUN_END(changes_the_run) {
+    pawhetino_run_end(RUN_END_ARGUMENTS);
+    if (*end > at) ((uint8_t *)s)[at] ^= 1;
 }
 
 static uint32_t counts_into_the_state(const uint8_t *s, size_t len, uint8_t reader, const uint64_t *state, size_t *count) {
@@ -312,6 +337,67 @@ COLUMN(sums_though_refused) {
     return number;
 }
 
+RUN_END(takes_seven_for_eight) {
+    pawhetino_run_end(RUN_END_ARGUMENTS);
+    *eights = (*end - at) / 7;
+}
+
+RUN_END(leaves_the_tail_uncounted) {
+    pawhetino_run_end(RUN_END_ARGUMENTS);
+    *ones = 0;
+}
+
+RUN_END(counts_eights_in_bytes) {
+    pawhetino_run_end(RUN_END_ARGUMENTS);
+    *eights *= 8;
+}
+
+RUN_END(goes_singly) {
+    pawhetino_run_end(RUN_END_ARGUMENTS);
+    *eights = 0, *ones = *end - at;
+}
+
+/* Whether a byte behind the run ended it. */
+static bool is_ended_by_a_byte(size_t len, const size_t *end) { return *end < len; }
+
+RUN_END(counts_the_byte_behind) {
+    pawhetino_run_end(RUN_END_ARGUMENTS);
+    if (is_ended_by_a_byte(len, end)) *ones += 1;
+}
+
+RUN_END(overlooks_the_byte_behind) {
+    pawhetino_run_end(RUN_END_ARGUMENTS);
+    if (is_ended_by_a_byte(len, end)) *end += 1;
+}
+
+/* As where seven bytes of an eight are compared. */
+RUN_END(overlooks_the_last_of_eight) {
+    pawhetino_run_end(RUN_END_ARGUMENTS);
+    if (is_ended_by_a_byte(len, end) && separator != 0 && *ones == 7) *end += 1, *eights += 1, *ones = 0;
+}
+
+/* As where seven bits of a byte are compared. */
+RUN_END(overlooks_the_highest_bits) {
+    size_t length = 0;
+    pawhetino_run_end(RUN_END_ARGUMENTS);
+    if (separator == 0 || at >= len) return;
+    while (length < len - at && (s[at + length] ^ separator) % 0x80 == 0) length++;
+    *end = at + length, *eights = length / 8, *ones = length % 8;
+}
+
+RUN_END(takes_0_for_a_separator) {
+    size_t length = 0;
+    pawhetino_run_end(RUN_END_ARGUMENTS);
+    if (separator != 0 || at >= len) return;
+    while (length < len - at && s[at + length] == 0) length++;
+    *end = at + length, *eights = length / 8, *ones = length % 8;
+}
+
+RUN_END(clips_a_place_past_the_end) {
+    pawhetino_run_end(RUN_END_ARGUMENTS);
+    if (at > len) *end = len;
+}
+
 const struct fault faults[] = {
     {"a write behind the answer", {.peek = writes_behind_the_answer}, "pawhetino_peek: crashed"},
     {"a write before the state", {.next_all = writes_before_the_state}, "pawhetino_next_all: crashed"},
@@ -321,9 +407,13 @@ const struct fault faults[] = {
     {"a read before the buffer", {.next = reads_before_the_start}, "pawhetino_next: crashed"},
     {"a read past the ends", {.next_all_column = reads_past_the_ends}, "pawhetino_next_all_column: crashed"},
     {"a write behind a number", {.next_all_column = writes_behind_a_number}, "pawhetino_next_all_column: crashed"},
+    {"a read past a run's buffer", {.run_end = reads_past_the_end_of_a_run}, "pawhetino_run_end: crashed"},
+    {"a run's tail read as eight", {.run_end = reads_the_tail_as_eight}, "pawhetino_run_end: crashed"},
+    {"a write behind the steps", {.run_end = writes_behind_the_steps}, "pawhetino_run_end: crashed"},
     {"a call that does not end", {.peek = hangs}, "pawhetino_peek: does not end"},
     {"a call without end on the stack", {.peek = uses_up_the_stack}, "pawhetino_peek: crashed"},
     {"a write to the buffer", {.next = changes_the_buffer}, "pawhetino_next: broken: the buffer stays as it is"},
+    {"a write to a run", {.run_end = changes_the_run}, "pawhetino_run_end: broken: the buffer stays as it is"},
     {"a write to the set", {.read_if = changes_the_set}, "pawhetino_read_if: broken: the set stays as it is"},
     {"a write to the ends", {.next_all_column = changes_the_ends}, "broken: the ends stay as they are"},
     {"a count's write to the state", {.current_count = counts_into_the_state}, "broken: the state stays as it is"},
@@ -358,6 +448,16 @@ const struct fault faults[] = {
     {"a block's place", {.take_n = begins_a_block_at_0}, "pawhetino_take_n: broken: a block begins at the cursor"},
     {"a column's digit lost", {.next_all_column = loses_a_digit}, "broken: the sums are those of pawhetino_next_all"},
     {"a refused column's sum", {.next_all_column = sums_though_refused}, "broken: the sums are those of"},
+    {"seven taken for eight", {.run_end = takes_seven_for_eight}, "broken: each eight separators are a step"},
+    {"a tail uncounted", {.run_end = leaves_the_tail_uncounted}, "broken: each separator of the tail is a step"},
+    {"eights counted in bytes", {.run_end = counts_eights_in_bytes}, "broken: each eight separators are a step"},
+    {"a run gone through singly", {.run_end = goes_singly}, "broken: each eight separators are a step"},
+    {"the byte behind counted", {.run_end = counts_the_byte_behind}, "broken: each separator of the tail is a step"},
+    {"the byte behind overlooked", {.run_end = overlooks_the_byte_behind}, "broken: a run ends behind its last separator"},
+    {"the last of eight overlooked", {.run_end = overlooks_the_last_of_eight}, "broken: a run ends behind its last separator"},
+    {"the highest bits overlooked", {.run_end = overlooks_the_highest_bits}, "broken: a run ends behind its last separator"},
+    {"0 taken for a separator", {.run_end = takes_0_for_a_separator}, "broken: a run ends behind its last separator"},
+    {"a place past the end clipped", {.run_end = clips_a_place_past_the_end}, "broken: a run ends behind its last separator"},
 };
 
 const size_t fault_count = sizeof faults / sizeof *faults;
