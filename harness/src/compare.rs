@@ -23,6 +23,7 @@ mod plain;
 mod ported;
 mod random;
 mod refusals;
+mod run_ends;
 mod runs;
 mod small;
 mod smallest;
@@ -35,7 +36,7 @@ pub use long::GROUPS as LONG_GROUPS;
 use crate::group::Groups;
 
 /// What the gate runs: words, then reader calls, the longest of these first.
-pub const GROUPS: [Groups; 21] = [
+pub const GROUPS: [Groups; 22] = [
     |report, _| named_words::run(report),
     |report, _| digits::run(report),
     checks::run,
@@ -49,6 +50,7 @@ pub const GROUPS: [Groups; 21] = [
     |report, seed| lists::run(report, seed, &lists::GATE),
     |report, seed| columns::run(report, seed, columns::COLUMNS),
     |report, seed| digit_runs::run(report, seed, digit_runs::CASES),
+    run_ends::run,
     |report, _| examples::run(report),
     |report, _| written::run(report),
     |report, _| is_digit::run(report),

@@ -10,6 +10,7 @@ pub mod library;
 pub mod port;
 pub mod refusal;
 pub mod run;
+pub mod run_end;
 pub mod sets;
 pub mod table;
 pub mod values;

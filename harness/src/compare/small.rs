@@ -123,13 +123,21 @@ pub fn counts(reader: u8, cursor: usize) -> impl Iterator<Item = [usize; 3]> {
 }
 
 /// All buffers up to a length, the shorter ones first.
-pub fn for_each_buffer(alphabet: [u8; 5], longest: usize, visit: &mut dyn FnMut(&[u8])) {
+pub fn for_each_buffer<const LETTERS: usize>(
+    alphabet: [u8; LETTERS],
+    longest: usize,
+    visit: &mut dyn FnMut(&[u8]),
+) {
     for length in 0..=longest {
         for_each_of_length(alphabet, length, visit);
     }
 }
 
-pub fn for_each_of_length(alphabet: [u8; 5], length: usize, visit: &mut dyn FnMut(&[u8])) {
+pub fn for_each_of_length<const LETTERS: usize>(
+    alphabet: [u8; LETTERS],
+    length: usize,
+    visit: &mut dyn FnMut(&[u8]),
+) {
     let mut buffer = vec![0; length];
     for number in 0..alphabet.len().pow(length as u32) {
         let mut rest = number;

@@ -12,6 +12,7 @@ use self::raw::{changing, is_kept};
 use super::answer::{Answer, CountAnswer, Found, UNTOUCHED};
 use super::call::{ByteSet, Call, Case, State};
 use super::column::{Column, Sums};
+use super::run_end::{RunEnd, Search};
 use crate::word::Word;
 
 /// What an answer holds before a call.
@@ -135,6 +136,20 @@ pub fn next_all_column(column: &Column) -> Sums {
         passed,
         digits,
     }
+}
+
+/// Seeks the end of a run of separators.
+pub fn run_end(search: &Search) -> RunEnd {
+    let [mut end, mut eights, mut ones] = [UNTOUCHED_NUMBER; 3];
+    let &Search {
+        buffer,
+        separator,
+        at,
+    } = search;
+    let (s, len) = (buffer.as_ptr(), buffer.len());
+    // SAFETY: as above.
+    unsafe { pawhetino_run_end(s, len, separator, at, &mut end, &mut eights, &mut ones) };
+    RunEnd { end, eights, ones }
 }
 
 pub fn is_digit(word: Word, byte: u8) -> bool {

@@ -64,6 +64,15 @@ unsafe extern "C" {
         passed: &mut usize,
         digits: &mut usize,
     ) -> u32;
+    pub fn pawhetino_run_end(
+        s: *const u8,
+        len: usize,
+        separator: u8,
+        at: usize,
+        end: &mut usize,
+        eights: &mut usize,
+        ones: &mut usize,
+    );
     // Safe: a reference is a place for all that is written.
     pub safe fn pawhetino_fresh(lo: u64, hi: u64, edition: u64, state: &mut RawState) -> u32;
     pub safe fn pawhetino_is_digit(lo: u64, hi: u64, c: u8) -> bool;
