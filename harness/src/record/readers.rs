@@ -18,6 +18,7 @@
 
 use std::io::{self, Write};
 
+use super::packed::{packed_buffer, packed_numbers};
 use crate::readers::answer::Answer;
 use crate::readers::call::{Call, Case, COUNTED, READERS};
 use crate::readers::refusal::ACCEPTED;
@@ -202,23 +203,9 @@ fn packed_answer(answer: &Answer, is_there: u64, found: u64) -> u64 {
     ])
 }
 
-/// Eight numbers below 256, the first one highest.
-fn packed_numbers(numbers: [usize; 8]) -> u64 {
-    numbers
-        .iter()
-        .fold(0, |packed, &number| packed << 8 | number as u64)
-}
-
 /// Of a part of eight bytes the length is shifted out.
 fn packed_part(part: &[u8]) -> u64 {
     part.iter().fold(part.len() as u64, |packed, &byte| {
         packed << 8 | u64::from(byte)
     })
-}
-
-fn packed_buffer(buffer: &[u8]) -> u64 {
-    buffer
-        .iter()
-        .rev()
-        .fold(0, |number, &byte| number << 8 | u64::from(byte))
 }
