@@ -97,6 +97,16 @@ pub fn table_of_runs() -> Table<Singly<NextAll>> {
                 )
             },
             Rows {
+                kinds: vec![padded(4000, b'2')],
+                cells: 16,
+                charted: &[IC, ILTC],
+                ..long(
+                    "4,000 separators, passed",
+                    &[("IC", IC), ("ILTC", ILTC)],
+                    b'2',
+                )
+            },
+            Rows {
                 charted: &[I],
                 ..long("300 separators, not passed", &[("I", I), ("IC", IC)], b'x')
             },
