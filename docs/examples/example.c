@@ -1,5 +1,5 @@
-/* The library from C: a cell and its value, zeros and a block, a column of cells, and a word that is refused. Each function returns
- * whether something came out otherwise than it must. */
+/* The library from C: a cell and its value, zeros and a block, a column of cells, a padded cell, and a word that is refused. Each
+ * function returns whether something came out otherwise than it must. */
 #include <inttypes.h>
 #include <stdio.h>
 
@@ -64,6 +64,15 @@ static int read_column(struct pawhetino_word word) {
     return taken != 14 || passed != 2 || digits != 14;
 }
 
+/* `1`, sixteen separators, `2`: where the run ends that begins at place 1, and the steps to there. */
+static int find_run_end(void) {
+    static const uint8_t cell[] = "1________________2";
+    size_t end, eights, ones;
+    pawhetino_run_end(cell, sizeof cell - 1, '_', 1, &end, &eights, &ones);
+    printf("%s: the run ends at %zu, %zu steps over eight bytes and %zu over one\n", (const char *)cell, end, eights, ones);
+    return end != 17 || eights != 2 || ones != 0;
+}
+
 /* Consecutive separators are allowed here, yet separators at no place. */
 static int refuse_word(void) {
     struct pawhetino_word word = pawhetino_word_of('_', 10, PAWHETINO_INTEGER_CONSECUTIVE);
@@ -75,6 +84,7 @@ static int refuse_word(void) {
 int main(void) {
     /* Separator `_` between the digits of the integer, radix 10. */
     struct pawhetino_word word = pawhetino_word_of('_', 10, PAWHETINO_INTEGER_INTERNAL);
-    int wrong = read_cell(word) + read_value(word) + skip_zeros_and_take_block(word) + read_column(word) + refuse_word();
+    int wrong = read_cell(word) + read_value(word) + skip_zeros_and_take_block(word) + read_column(word);
+    wrong += find_run_end() + refuse_word();
     return wrong != 0;
 }
