@@ -4,3 +4,4 @@ pub mod Looks
 pub mod TakeSums
 pub mod Pairs
 pub mod OrdinaryCells
+pub mod Eights

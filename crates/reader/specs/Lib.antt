@@ -1,5 +1,5 @@
 -- Document 01's definitions, in its order, with what demand 1 and demand 3 claim (RefusalKeeps, ByteTally); then a column of cells, which
--- is ours. Code has what only private functions are promised.
+-- is ours, and document 02's search (Search). Code has what only private functions are promised.
 pub mod Rule
 pub mod Place
 pub mod Reading
@@ -17,4 +17,5 @@ pub mod RefusalKeeps
 pub mod ByteTally
 pub mod Bytes
 pub mod Column
+pub mod Search
 pub mod Code

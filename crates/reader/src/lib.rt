@@ -9,5 +9,6 @@ pub mod open;
 pub mod pairs;
 pub mod passing;
 pub mod rule;
+pub mod search;
 pub mod skip;
 pub mod state;

@@ -14,6 +14,7 @@ use crate::rule;
 use crate::rule::Flags;
 use crate::rule::Later;
 use crate::rule::Neighbour;
+use crate::search::search_from;
 use crate::state::Reader;
 use crate::state::State;
 use word::digit::char_is_digit_by_table;
@@ -146,14 +147,8 @@ fn run_end(s: &[u8], separator: u8, at: usize) -> usize
     requires { ⌜ (0 < separator) × (at ≤ length (now s)) ⌝ }
     ensures { λ r. ⌜ (r ≡ at + separatorRun separator (drop at (now (s .entry)))) × (r ≤ length (now (s .entry))) ⌝ }
 {
-    let mut i = at;
-    while i < s.len() {
-        if s[i] != separator {
-            return i;
-        }
-        i += 1;
-    }
-    i
+    let found = search_from(s, separator, at);
+    found.end
 }
 
 // The neighbour before a place: the byte just before, or with the consecutive flag the nearest one that is no separator. Where it is
@@ -220,12 +215,11 @@ pub(crate) fn landing(s: &[u8], syntax: Syntax, first: bool, at: usize) -> usize
     if !passes(s, syntax, first, at) {
         return at;
     }
-    let next = at + 1;
     let run = syntax.flags.consecutive;
     if run {
-        return run_end(s, separator, next);
+        return run_end(s, separator, at);
     }
-    next
+    at + 1
 }
 
 // Where the byte behind a separator stands that its rule looks at; it is also where a cursor lands that passes there.
@@ -233,11 +227,10 @@ fn behind(s: &[u8], syntax: Syntax, at: usize) -> usize
     requires { ⌜ (0 < syntax .separator) × (at < length (now s)) × (getD (now s) at 0 ≡ syntax .separator) ⌝ }
     ensures { λ r. ⌜ (byteAt (now (s .entry)) r ≡ nearest (syntax .separator) (syntax .flags .consecutive) (after (now (s .entry)) at)) × (r ≡ at + cond (syntax .flags .consecutive) (separatorRun (syntax .separator) (drop at (now (s .entry)))) 1) × (r ≤ length (now (s .entry))) ⌝ }
 {
-    let next = at + 1;
     if syntax.flags.consecutive {
-        return run_end(s, syntax.separator, next);
+        return run_end(s, syntax.separator, at);
     }
-    next
+    at + 1
 }
 
 // Where a cursor lands at a separator once its reader has counted: no byte before it matters, and none at all where the rule never

@@ -15,7 +15,7 @@ use Rattle.word.specs.Bits.{bit}
 use Rattle.reader.specs.Code.RuleWords.{codeOf}
 use Rattle.reader.specs.Place.{isSeparator, byteAt, after, firstOther, separatorRun, nearest}
 use Rattle.reader.specs.Reading.{readingWith, neighbourOf, previous, following, mayPass, passedAt}
-use Rattle.reader.proofs.passing.Places.{byte-here, no-byte, is-separator, runEnd, run-over}
+use Rattle.reader.proofs.passing.Places.{byte-here, no-byte, is-separator, runEnd}
 
 -- the neighbour of a place on one side, whose bytes these are, where it is wanted
 abbrev pub neighbourWhere : Syntax → Bool → List ℕ → Neighbour
@@ -90,5 +90,5 @@ module _ (x : Syntax) (s : List ℕ) (isFirst : Bool) (at : ℕ) where
       pub passes-behind : (r : ℕ) → may ≡ true → r ≡ at + cond (x .flags .consecutive) (separatorRun (x .separator) (drop at s)) 1 → r ≡ landingOf
       passes-behind r t e = rw (passed, t) e
 
-      pub passes-run : (r : ℕ) → not may ≡ false → x .flags .consecutive ≡ true → r ≡ runEnd (x .separator) s (at + 1) → r ≡ landingOf
-      passes-run r t k e = rw (passed, not-false may t, k) (e ∙ run-over (x .separator) s at h positive equal)
+      pub passes-run : (r : ℕ) → not may ≡ false → x .flags .consecutive ≡ true → r ≡ runEnd (x .separator) s at → r ≡ landingOf
+      passes-run r t k e = rw (passed, not-false may t, k) e

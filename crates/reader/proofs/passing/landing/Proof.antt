@@ -33,9 +33,6 @@ returns-4 c =
       search needs,
     )
 
-add-next : tie.Need-add-next
-add-next c = search needs
-
 run-end-requires : tie.Need-run-end-requires
 run-end-requires c κs = search needs
 
@@ -47,6 +44,9 @@ returns-5 c =
           (c .before .before .if4 .left) (c .before .if5 .taken) (c .run-end .ensures .0),
       search needs,
     )
+
+add-result : tie.Need-add-result
+add-result c = search needs
 
 returns-6 : tie.Need-returns-6
 returns-6 c =
@@ -67,7 +67,7 @@ landing-spec =
     returns-3
     passes-requires
     returns-4
-    add-next
     run-end-requires
     returns-5
+    add-result
     returns-6)

@@ -1,0 +1,28 @@
+-- `reader::search::eight_at` meets its contract. Assumes nothing.
+use borrow.Author.Needs.{needs}
+use Rattle.reader.proofs.search.Numbers.{twice-as-wide}
+use Rattle.reader.proofs.search.eight_at.Statement.{statement}
+use Rattle.reader.proofs.search.eight_at.Tie as tie
+
+add-next : tie.Need-add-next
+add-next c = search needs
+
+four-at-requires : tie.Need-four-at-requires
+four-at-requires c κs = search needs
+
+four-at-requires-2 : tie.Need-four-at-requires-2
+four-at-requires-2 c κs = search needs
+
+mul-result : tie.Need-mul-result
+mul-result c = search needs
+
+add-result : tie.Need-add-result
+add-result c = search needs
+
+returns : tie.Need-returns
+returns c =
+    let a = c .before .before .before .args in
+    twice-as-wide 4 (a .s .now) (a .at) _ _ (c .before .four-at .ensures) (c .four-at2 .ensures)
+
+pub eight-at-spec : {M : Type 1} → statement M
+eight-at-spec = tie.close (tie.spec add-next four-at-requires four-at-requires-2 mul-result add-result returns)
