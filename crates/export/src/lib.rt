@@ -24,6 +24,7 @@ pub mod peek;
 pub mod plain;
 pub mod read;
 pub mod reply;
+pub mod run_end;
 pub mod state;
 pub mod zeros;
 
