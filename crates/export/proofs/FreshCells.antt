@@ -59,3 +59,8 @@ module _ (n : ℕ) (w : List ℕ) (low : n ≤ 2) where
         counted = counted-reader n low .counts;
         positive = positive;
       }
+
+  -- whether it passes several separators at once
+  pub runs-in : syntaxOf word-in reader-in .flags .consecutive ≡ flag word-in (41 + n)
+  unfolding syntaxOf
+  runs-in = rw (counted-reader n low .flags word-in)

@@ -1,5 +1,5 @@
-// Takes to the end of a cell. Most cells are taken from a fresh state, and each of their separators stands right before a digit, none
-// before the first one: such cells go by numbers, and nothing is asked of the rule table.
+// Takes to the end of a cell. Most cells are taken from a fresh state, and each of their separators, or runs of them that are passed at
+// once, stands right before a digit, none before the first one: such cells go by numbers, and nothing is asked of the rule table.
 ghost use mathlib.Core.Path.{_≡_};
 ghost use mathlib.Core.Bool.{true, false, cond};
 ghost use Prim.Native.Nat.{_+_, _<_, _≤_, _^_};
@@ -10,7 +10,9 @@ ghost use Rattle.export.specs.State.{stateWords};
 ghost use Rattle.export.specs.Answer.{byteWords};
 ghost use Rattle.export.specs.Calls.{takenAllBy};
 ghost use Rattle.export.specs.Code.GroupedCell.{GroupedCell};
+use crate::behind::behind_run;
 use crate::here::radix_of;
+use crate::over::has_consecutive;
 use crate::over::has_internal;
 use crate::reply::of_answer;
 use crate::reply::put;
@@ -71,9 +73,11 @@ fn not_grouped() -> Grouped
     }
 }
 
-fn grouped_cell(s: &[u8], separator: u8, radix: u8) -> Grouped
+// `runs` says whether the reader passes several separators at once.
+fn grouped_cell(s: &[u8], separator: u8, radix: u8, runs: bool) -> Grouped
+    requires { ⌜ 0 < separator ⌝ }
     ensures fits { λ p. ⌜ p .passed ≤ length (now (s .entry)) ⌝ }
-    ensures cell { λ p. ⌜ (p .«is_so» ≡ true → GroupedCell separator radix (now (s .entry)) (p .count) (p .passed)) ⌝ }
+    ensures cell { λ p. ⌜ (p .«is_so» ≡ true → GroupedCell separator radix runs (now (s .entry)) (p .count) (p .passed)) ⌝ }
 {
     let mut at: usize = 0;
     let mut count: usize = 0;
@@ -85,11 +89,11 @@ fn grouped_cell(s: &[u8], separator: u8, radix: u8) -> Grouped
             at += 1;
             continue;
         }
-        let n = at + 1;
-        if s.len() <= n {
+        if count == 0 {
             return not_grouped();
         }
-        if count == 0 {
+        let n = behind_run(s, separator, runs, at);
+        if s.len() <= n {
             return not_grouped();
         }
         let c = s[n];
@@ -100,7 +104,7 @@ fn grouped_cell(s: &[u8], separator: u8, radix: u8) -> Grouped
             return not_grouped();
         }
         count += 1;
-        passed += 1;
+        passed += n - at;
         at = n + 1;
     }
     Grouped {
@@ -150,7 +154,8 @@ pub extern "C" fn pawhetino_next_all(
     if !has_internal(format, reader) {
         return next_all_any(&s[..], reader, &mut *state, &mut *answer);
     }
-    let grouped = grouped_cell(s, separator, radix_of(format));
+    let runs = has_consecutive(format, reader);
+    let grouped = grouped_cell(s, separator, radix_of(format), runs);
     if !grouped.is_so {
         return next_all_any(&s[..], reader, &mut *state, &mut *answer);
     }

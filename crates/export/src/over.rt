@@ -13,13 +13,29 @@ use word::digit::char_is_digit_by_range;
 use word::format_flags::Format;
 use word::format_flags::bit_at;
 
+// Whether the reader has a flag, of which `first` is the integer reader's.
+fn has_flag(format: Format, first: u32, reader: u8) -> bool
+    requires { ⌜ (first ≤ 41) × (reader ≤ 2) ⌝ }
+    ensures { λ r. ⌜ r ≡ flag format (first + reader) ⌝ }
+{
+    let position = first + reader as u32;
+    bit_at(format.lo, position)
+}
+
 // Whether the reader may pass between digits.
 pub(crate) fn has_internal(format: Format, reader: u8) -> bool
     requires { ⌜ reader ≤ 2 ⌝ }
     ensures { λ r. ⌜ r ≡ flag format (32 + reader) ⌝ }
 {
-    let position = 32 + reader as u32;
-    bit_at(format.lo, position)
+    has_flag(format, 32, reader)
+}
+
+// Whether it passes several separators at once.
+pub(crate) fn has_consecutive(format: Format, reader: u8) -> bool
+    requires { ⌜ reader ≤ 2 ⌝ }
+    ensures { λ r. ⌜ r ≡ flag format (41 + reader) ⌝ }
+{
+    has_flag(format, 41, reader)
 }
 
 fn is_over(s: &[u8], reader: u8, state: &[u64; 8]) -> bool

@@ -18,7 +18,7 @@ use Rattle.export.specs.State.{stateWords}
 use Rattle.export.specs.Answer.{byteWords}
 use Rattle.export.specs.Calls.{takenAllBy}
 use Rattle.export.specs.Code.GroupedCell.{GroupedCell}
-use Rattle.export.proofs.FreshCells.{word-in, reader-in, fresh-in, reader-of, between-in}
+use Rattle.export.proofs.FreshCells.{word-in, reader-in, fresh-in, reader-of, between-in, runs-in}
 use Rattle.export.proofs.here.CountedReaders.{end-words}
 
 module _ (n : ℕ) (w s : List ℕ) (low : n ≤ 2) (edition : getD w 7 0 ≡ 0)
@@ -30,12 +30,12 @@ module _ (n : ℕ) (w s : List ℕ) (low : n ≤ 2) (edition : getD w 7 0 ≡ 0)
   r = reader-in n w low
 
   module _ (count passed : ℕ) (positive : 0 < digitSeparator f) (internal : flag f (32 + n) ≡ true)
-      (cell : GroupedCell (digitSeparator f) (mantissaRadix f) s count passed) where
+      (cell : GroupedCell (digitSeparator f) (mantissaRadix f) (flag f (41 + n)) s count passed) where
     taken-all : takenAllBy n w s ≡ sumsOutcome (freshOf f) r (record { at = length s; count = count; passed = passed })
     unfolding takenAllBy syntaxOn syntaxOf
     taken-all =
         rw (reader-of n w low edition, fresh-in n w low cursor integer fraction exponent)
-        (sym (cell (syntaxOf f r) f r (between-in n w low (mantissaRadix f) refl positive internal)))
+        (sym (cell (syntaxOf f r) f r (between-in n w low (mantissaRadix f) refl positive internal) (runs-in n w low)))
 
     pub end-written : (old : List ℕ)
         → (0 ≡ takenAllBy n w s .refusal)

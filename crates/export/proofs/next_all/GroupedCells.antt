@@ -1,16 +1,17 @@
 -- The loop over a grouped cell has the numbers of its takes: for `grouped_cell`. Assumes nothing.
 use mathlib.Core.Path.{_≡_, refl, sym}
-use mathlib.Core.Bool.{true, cond, _&&_}
+use mathlib.Core.Bool.{Bool, true, cond, _&&_}
 use mathlib.Core.List.{List}
 use Prim.Native.Nat.{ℕ, _+_, _-_, _<_, _≤_}
 use native.Mathlib.Omega.{arith}
 use lib.Dec.{eqb}
-use lib.ListN.{length, getD}
+use lib.ListN.{length, drop, getD}
 use borrow.Author.Tests.{ne-eqb}
 use Rattle.word.specs.declared.format_flags.Format.{Format}
 use Rattle.word.specs.Digit.{isDigit}
 use Rattle.reader.specs.declared.state.Reader.{Reader}
 use Rattle.reader.specs.declared.passing.Syntax.{Syntax}
+use Rattle.reader.specs.Place.{separatorRun}
 use Rattle.reader.specs.Reading.{readingWith, hasAnyFlag}
 use Rattle.reader.specs.State.{freshOf, isCounted}
 use Rattle.reader.specs.Code.TakeSums.{sumsOutcome}
@@ -21,11 +22,12 @@ use Rattle.reader.proofs.state.Refusals.{skip-admits}
 use Rattle.reader.proofs.state.Updates.{fresh-count}
 use Rattle.reader.proofs.skip.TakeLoop.{Running, running-starts, running-on, running-out}
 use Rattle.export.specs.Code.GroupedCell.{Between}
-use Rattle.export.proofs.DigitBehind.{lands-between}
+use Rattle.export.proofs.DigitBehind.{lands-behind}
 use Rattle.export.proofs.FreshCells.{fresh-clear}
 
 -- The loop's numbers, for every such reader.
-module _ (separator radix : ℕ) (s : List ℕ) (x : Syntax) (f : Format) (r : Reader) (b : Between x separator radix r) where
+module _ (separator radix : ℕ) (runs : Bool) (s : List ℕ) (x : Syntax) (f : Format) (r : Reader) (b : Between x separator radix r)
+    (alike : x .flags .consecutive ≡ runs) where
   clear : refusalWith (x .flags) s (freshOf f) r ≡ 0
   clear = skip-admits (x .flags) s (freshOf f) r (fresh-clear x s f r (b .internal) (b .counted)) .1
 
@@ -45,15 +47,16 @@ module _ (separator radix : ℕ) (s : List ℕ) (x : Syntax) (f : Format) (r : R
         let none-passed : passed + (at - at) ≡ passed = omega arith in
         rw (none-passed, counts (getD s at 0)) at (running-on (readingWith x) s r (freshOf f) clear at count passed here at stays inside)
 
-    pub grouped-over : at < length s → getD s at 0 ≡ separator → at + 1 < length s → (getD s (at + 1) 0 ≡ separator → ⊥)
-        → isDigit (getD s (at + 1) 0) radix ≡ true → (count ≡ 0 → ⊥)
-        → Running (readingWith x) s r (freshOf f) (at + 1 + 1) (count + 1) (passed + 1)
+    pub grouped-over : at < length s → getD s at 0 ≡ separator
+        → (n : ℕ) → n ≡ at + cond runs (separatorRun separator (drop at s)) 1 → n < length s → (getD s n 0 ≡ separator → ⊥)
+        → isDigit (getD s n 0) radix ≡ true → (count ≡ 0 → ⊥)
+        → Running (readingWith x) s r (freshOf f) (n + 1) (count + 1) (passed + (n - at))
     unfolding readingWith
-    grouped-over inside equal more differ digit some-counted =
-        let lands = lands-between x s at inside (rw (b .own-separator) (b .positive)) (rw (b .own-separator) equal) more (rw (b .own-separator) differ) (rw (b .own-radix) digit) (b .internal) in
-        let one : passed + (at + 1 - at) ≡ passed + 1 = omega arith in
-        rw (one, counts (getD s (at + 1) 0), digit) at
-        (running-on (readingWith x) s r (freshOf f) clear at count passed here (at + 1) (rw (ne-eqb count 0 some-counted) lands) more)
+    grouped-over inside equal n behind more differ digit some-counted =
+        let own = b .own-separator in
+        let lands = lands-behind x s at inside (rw own (b .positive)) (rw own equal) n (rw (own, alike) behind) more (rw own differ) (rw (b .own-radix) digit) (b .internal) in
+        rw (counts (getD s n 0), digit) at
+        (running-on (readingWith x) s r (freshOf f) clear at count passed here n (rw (ne-eqb count 0 some-counted) lands) more)
 
     pub grouped-out : at ≡ length s
         → sumsOutcome (freshOf f) r (record { at = length s; count = count; passed = passed }) ≡ nextAllOf (readingWith x) s (freshOf f) r

@@ -70,6 +70,16 @@ next-all-any-requires-4 c κs = search needs
 returns-4 : tie.Need-returns-4
 returns-4 c = search needs
 
+has-consecutive-requires : tie.Need-has-consecutive-requires
+has-consecutive-requires c κs =
+    let a = c .before .before .before .before .before .before .before .before .before .before .before .before .before .before .args in
+    let w = a .state .now in
+    let other = ltb 2 (a .reader) in
+    let moved = not (eqb (getD w 2 0) 0) in
+    let edition = not (eqb (getD w 7 0) 0) in
+    let t1 : ((other || moved) || edition) ≡ false = c .before .before .before .before .before .before .before .before .before .before .if1 .left in
+    ltb-false 2 (a .reader) (left-fails other moved (left-fails (other || moved) edition t1))
+
 radix-of-requires : tie.Need-radix-of-requires
 radix-of-requires c κs = search needs
 
@@ -102,18 +112,18 @@ element-copy-out-kept c = search needs
 
 returns-6 : tie.Need-returns-6
 returns-6 c =
-    let a = c .before .before .before .before .before .before .before .before .before .before .before .before .before .before .before .before .before .before .before .before .before .before .before .before .before .args in
+    let a = c .before .before .before .before .before .before .before .before .before .before .before .before .before .before .before .before .before .before .before .before .before .before .before .before .before .before .args in
     let w = a .state .now in
     let other = ltb 2 (a .reader) in
     let moved = not (eqb (getD w 2 0) 0) in
     let edition = not (eqb (getD w 7 0) 0) in
-    let t1 : ((other || moved) || edition) ≡ false = c .before .before .before .before .before .before .before .before .before .before .before .before .before .before .before .before .before .before .before .before .before .if1 .left in
+    let t1 : ((other || moved) || edition) ≡ false = c .before .before .before .before .before .before .before .before .before .before .before .before .before .before .before .before .before .before .before .before .before .before .if1 .left in
     let n3 = not (eqb (getD w 3 0) 0) in
     let n4 = not (eqb (getD w 4 0) 0) in
     let n5 = not (eqb (getD w 5 0) 0) in
-    let t2 : ((n3 || n4) || n5) ≡ false = c .before .before .before .before .before .before .before .before .before .before .before .before .before .before .before .before .before .if2 .left in
-    let separator = c .before .before .before .before .before .before .before .before .before .before .before .before .before .before .digit-separator in
-    let internal = c .before .before .before .before .before .before .before .before .before .before .before .before .has-internal in
+    let t2 : ((n3 || n4) || n5) ≡ false = c .before .before .before .before .before .before .before .before .before .before .before .before .before .before .before .before .before .before .if2 .left in
+    let separator = c .before .before .before .before .before .before .before .before .before .before .before .before .before .before .before .digit-separator in
+    let internal = c .before .before .before .before .before .before .before .before .before .before .before .before .before .has-internal in
     let cell = c .before .before .before .before .before .before .before .before .before .grouped-cell .ensures .1 (not-false _ (c .before .before .before .before .before .before .before .if5 .left)) in
     rw (c .before .before .before .before .before .before .own .ensures, c .before .before .before .before .before .own2 .ensures, c .before .before .before .before .own3 .ensures)
     (end-written (a .reader) w (a .s .now)
@@ -124,9 +134,9 @@ returns-6 c =
     (is-zero (getD w 4 0) (right-fails n3 n4 (left-fails (n3 || n4) n5 t2)))
     (is-zero (getD w 5 0) (right-fails (n3 || n4) n5 t2))
     (c .before .before .before .before .before .before .before .before .before .grouped-cell .result .count) (c .before .before .before .before .before .before .before .before .before .grouped-cell .result .passed)
-    (rw (sym (separator .ensures)) (omega (arith, c .before .before .before .before .before .before .before .before .before .before .before .before .before .if3 .left)))
-    (sym (internal .ensures) ∙ not-false _ (c .before .before .before .before .before .before .before .before .before .before .before .if4 .left))
-    (rw (separator .ensures, c .before .before .before .before .before .before .before .before .before .before .radix-of .ensures) at cell)
+    (rw (sym (separator .ensures)) (omega (arith, c .before .before .before .before .before .before .before .before .before .before .before .before .before .before .if3 .left)))
+    (sym (internal .ensures) ∙ not-false _ (c .before .before .before .before .before .before .before .before .before .before .before .before .if4 .left))
+    (rw (separator .ensures, c .before .before .before .before .before .before .before .before .before .before .before .has-consecutive .ensures, c .before .before .before .before .before .before .before .before .before .before .radix-of .ensures) at cell)
     (a .answer .now))
 
 pub pawhetino-next-all-spec : {M : Type 1} → statement M
@@ -150,6 +160,7 @@ pawhetino-next-all-spec =
     has-internal-requires
     next-all-any-requires-4
     returns-4
+    has-consecutive-requires
     radix-of-requires
     grouped-cell-requires
     next-all-any-requires-5
