@@ -1,7 +1,7 @@
 -- A separator right before a digit is passed by every reader with the internal flag, once it has counted, and so is a run of them where
 -- it passes several at once: for the quick ways of grouped cells and of a call at such a separator. Assumes nothing.
 use mathlib.Core.Path.{_≡_, _∙_, refl, sym}
-use mathlib.Core.Bool.{Bool, true, false, cond}
+use mathlib.Core.Bool.{Bool, true, false, cond, false≢true}
 use mathlib.Core.List.{List}
 use mathlib.Core.Option.{some}
 use Prim.Native.Nat.{ℕ, suc, _+_, _<_}
@@ -12,9 +12,10 @@ use Rattle.reader.specs.declared.rule.Flags.{Flags}
 use Rattle.reader.specs.declared.rule.Neighbour.{Neighbour}
 use Rattle.reader.specs.declared.passing.Syntax.{Syntax}
 use Rattle.reader.specs.Rule.{ruleOf, later}
-use Rattle.reader.specs.Place.{byteAt, after, separatorRun, nearest}
+use Rattle.reader.specs.Place.{byteAt, after, firstOther, separatorRun, nearest}
 use Rattle.reader.specs.Reading.{readingWith, neighbourOf, previous, passedAt}
-use Rattle.reader.proofs.passing.Places.{byte-here, no-separator, run-byte, run-stops, run-over}
+use Rattle.reader.proofs.passing.Places.{byte-here, is-separator, no-separator, runEnd, run-byte, run-stops, run-over}
+use Rattle.reader.proofs.passing.Passed.{other-differs}
 use Rattle.reader.proofs.passing.Landings.{passes-behind}
 
 -- what the rules with the internal flag share
@@ -30,6 +31,12 @@ rule-between f p n i e d o = rw i (go (f .leading) (f .trailing) (f .consecutive
   go true false true = rw (e, d)
   go false true true = refl
   go true true true = refl
+
+-- behind a run stands no separator
+pub other-behind : (separator : ℕ) (s : List ℕ) (at n : ℕ) → 0 < separator → n ≡ runEnd separator s at → n < length s → getD s n 0 ≡ separator → ⊥
+other-behind separator s at n positive ends more equal =
+    let first : firstOther separator (drop at s) ≡ some (getD s n 0) = sym (run-byte separator s at) ∙ rw (sym ends) (byte-here s n more) in
+    false≢true (sym (other-differs separator (drop at s) (getD s n 0) first) ∙ is-separator separator (getD s n 0) positive equal)
 
 module _ (x : Syntax) (s : List ℕ) (at : ℕ) (inside : at < length s) (positive : 0 < x .separator) (equal : getD s at 0 ≡ x .separator) where
   -- the place behind the separator, or behind its run where runs are passed at once

@@ -1,14 +1,14 @@
 -- A fresh state lent as words, and a counted reader on it that may pass between digits: for the quick ways of grouped cells, takes to the
 -- end and digit runs. Assumes nothing.
-use mathlib.Core.Path.{_≡_, refl}
-use mathlib.Core.Bool.{Bool, true, false, not, _&&_}
+use mathlib.Core.Path.{_≡_, _∙_, refl, sym}
+use mathlib.Core.Bool.{Bool, true, false, not, _&&_, _||_}
 use mathlib.Core.List.{List, [], _∷_}
 use mathlib.Core.Option.{some}
 use Prim.Native.Nat.{ℕ, _+_, _<_, _≤_}
 use native.Mathlib.Omega.{arith}
-use lib.Dec.{eqb}
+use lib.Dec.{eqb, ltb}
 use lib.ListN.{length, getD}
-use borrow.Author.Tests.{le-leb, eqb-true, not-false}
+use borrow.Author.Tests.{le-leb, eqb-true, ltb-false, not-false}
 use Rattle.word.specs.declared.format_flags.Format.{Format}
 use Rattle.word.specs.Word.{flag, digitSeparator, mantissaRadix}
 use Rattle.word.specs.Check.{line, firstFailing}
@@ -19,7 +19,9 @@ use Rattle.reader.specs.State.{freshOf, isCounted}
 use Rattle.reader.specs.Calls.{consecutiveNumber}
 use Rattle.reader.specs.ZeroSkip.{skipRefusal}
 use Rattle.export.specs.State.{stateIn, readerOn}
+use Rattle.export.specs.Code.FreshWords.{FreshWords}
 use Rattle.export.specs.Code.GroupedCell.{Between}
+use Rattle.export.proofs.Booleans.{left-fails, right-fails}
 use Rattle.export.proofs.here.CountedReaders.{counted-reader, named-on}
 
 -- a number that is not told to be other than 0 is 0
@@ -64,3 +66,28 @@ module _ (n : ℕ) (w : List ℕ) (low : n ≤ 2) where
   pub runs-in : syntaxOf word-in reader-in .flags .consecutive ≡ flag word-in (41 + n)
   unfolding syntaxOf
   runs-in = rw (counted-reader n low .flags word-in)
+
+-- what the tests of a call have found out
+pub fresh-words : (n : ℕ) (w : List ℕ)
+    → ((ltb 2 n || not (eqb (getD w 2 0) 0)) || not (eqb (getD w 7 0) 0)) ≡ false
+    → ((not (eqb (getD w 3 0) 0) || not (eqb (getD w 4 0) 0)) || not (eqb (getD w 5 0) 0)) ≡ false
+    → (separator : ℕ) → separator ≡ digitSeparator (stateIn w .format) → (separator ≡ 0 → ⊥)
+    → (between : Bool) → between ≡ flag (stateIn w .format) (32 + n) → not between ≡ false
+    → FreshWords n w
+fresh-words n w known fresh separator own some-separator between told may =
+    let other = ltb 2 n in
+    let moved = not (eqb (getD w 2 0) 0) in
+    let edition = not (eqb (getD w 7 0) 0) in
+    let n3 = not (eqb (getD w 3 0) 0) in
+    let n4 = not (eqb (getD w 4 0) 0) in
+    let n5 = not (eqb (getD w 5 0) 0) in
+    record {
+      low = ltb-false 2 n (left-fails other moved (left-fails (other || moved) edition known));
+      edition = is-zero (getD w 7 0) (right-fails (other || moved) edition known);
+      cursor = is-zero (getD w 2 0) (right-fails other moved (left-fails (other || moved) edition known));
+      integer = is-zero (getD w 3 0) (left-fails n3 n4 (left-fails (n3 || n4) n5 fresh));
+      fraction = is-zero (getD w 4 0) (right-fails n3 n4 (left-fails (n3 || n4) n5 fresh));
+      exponent = is-zero (getD w 5 0) (right-fails (n3 || n4) n5 fresh);
+      positive = rw (sym own) (omega (arith, some-separator));
+      internal = sym told ∙ not-false between may;
+    }

@@ -2,5 +2,6 @@
 pub mod Reply
 pub mod Here
 pub mod Over
+pub mod FreshWords
 pub mod GroupedCell
 pub mod GroupedRun

@@ -12,7 +12,6 @@ ghost use Rattle.word.specs.Word.{digitSeparator, mantissaRadix};
 ghost use Rattle.reader.specs.Place.{isSeparator};
 use word::format_flags::Format;
 
-pub mod behind;
 pub mod block;
 pub mod column;
 pub mod count;

@@ -1,16 +1,17 @@
-// Takes to the end of a cell. Most cells are taken from a fresh state, and each of their separators, or runs of them that are passed at
-// once, stands right before a digit, none before the first one: such cells go by numbers, and nothing is asked of the rule table.
+// Takes to the end of a cell. Most cells are taken from a fresh state, and each of their separators stands right before a digit, none
+// before the first one: such cells go by numbers, and nothing is asked of the rule table.
 ghost use mathlib.Core.Path.{_≡_};
 ghost use mathlib.Core.Bool.{true, false, cond};
-ghost use Prim.Native.Nat.{_+_, _<_, _≤_, _^_};
+ghost use mathlib.Core.List.{[], _∷_};
+ghost use Prim.Native.Nat.{_+_, _-_, _<_, _≤_, _^_};
 ghost use lib.Dec.{eqb};
-ghost use lib.ListN.{length};
+ghost use lib.ListN.{length, getD};
 ghost use Rattle.word.specs.Digit.{isDigit};
 ghost use Rattle.export.specs.State.{stateWords};
 ghost use Rattle.export.specs.Answer.{byteWords};
 ghost use Rattle.export.specs.Calls.{takenAllBy};
-ghost use Rattle.export.specs.Code.GroupedCell.{GroupedCell};
-use crate::behind::behind_run;
+ghost use Rattle.export.specs.Code.FreshWords.{FreshWords, endWords};
+ghost use Rattle.export.specs.Code.GroupedCell.{GroupedCell, SpacedCell};
 use crate::here::radix_of;
 use crate::over::has_consecutive;
 use crate::over::has_internal;
@@ -19,6 +20,7 @@ use crate::reply::put;
 use crate::reply::refused;
 use crate::state::reader_on;
 use crate::state::state_in;
+use reader::search::search_run;
 use reader::skip::next_all;
 use reader::state::Named;
 use word::digit::char_is_digit_by_range;
@@ -73,11 +75,50 @@ fn not_grouped() -> Grouped
     }
 }
 
-// `runs` says whether the reader passes several separators at once.
-fn grouped_cell(s: &[u8], separator: u8, radix: u8, runs: bool) -> Grouped
+fn grouped_cell(s: &[u8], separator: u8, radix: u8) -> Grouped
+    ensures fits { λ p. ⌜ p .passed ≤ length (now (s .entry)) ⌝ }
+    ensures cell { λ p. ⌜ (p .«is_so» ≡ true → GroupedCell separator radix (now (s .entry)) (p .count) (p .passed)) ⌝ }
+{
+    let mut at: usize = 0;
+    let mut count: usize = 0;
+    let mut passed: usize = 0;
+    while at < s.len() {
+        let b = s[at];
+        if b != separator {
+            count = count_past(b, radix, count);
+            at += 1;
+            continue;
+        }
+        let n = at + 1;
+        if s.len() <= n {
+            return not_grouped();
+        }
+        if count == 0 {
+            return not_grouped();
+        }
+        let c = s[n];
+        if c == separator {
+            return not_grouped();
+        }
+        if !char_is_digit_by_range(c, radix) {
+            return not_grouped();
+        }
+        count += 1;
+        passed += 1;
+        at = n + 1;
+    }
+    Grouped {
+        is_so: true,
+        count,
+        passed,
+    }
+}
+
+// The same where a run of separators is passed at once: each run then stands right before a digit.
+fn spaced_cell(s: &[u8], separator: u8, radix: u8) -> Grouped
     requires { ⌜ 0 < separator ⌝ }
     ensures fits { λ p. ⌜ p .passed ≤ length (now (s .entry)) ⌝ }
-    ensures cell { λ p. ⌜ (p .«is_so» ≡ true → GroupedCell separator radix runs (now (s .entry)) (p .count) (p .passed)) ⌝ }
+    ensures cell { λ p. ⌜ (p .«is_so» ≡ true → SpacedCell separator radix (now (s .entry)) (p .count) (p .passed)) ⌝ }
 {
     let mut at: usize = 0;
     let mut count: usize = 0;
@@ -92,20 +133,17 @@ fn grouped_cell(s: &[u8], separator: u8, radix: u8, runs: bool) -> Grouped
         if count == 0 {
             return not_grouped();
         }
-        let n = behind_run(s, separator, runs, at);
-        if s.len() <= n {
+        let end = search_run(s, separator, at).end;
+        if s.len() <= end {
             return not_grouped();
         }
-        let c = s[n];
-        if c == separator {
-            return not_grouped();
-        }
+        let c = s[end];
         if !char_is_digit_by_range(c, radix) {
             return not_grouped();
         }
         count += 1;
-        passed += n - at;
-        at = n + 1;
+        passed += end - at;
+        at = end + 1;
     }
     Grouped {
         is_so: true,
@@ -119,6 +157,74 @@ pub(crate) fn own(reader: u8, which: u8, count: u64) -> u64
     ensures { λ r. ⌜ r ≡ cond (eqb reader which) count 0 ⌝ }
 {
     if reader == which { count } else { 0 }
+}
+
+// Writes what takes to the end of a cell of so many bytes have come to, from a fresh state.
+fn put_end(
+    reader: u8,
+    size: usize,
+    count: usize,
+    passed: usize,
+    state: &mut [u64; 8],
+    answer: &mut [u64; 4],
+) -> u32
+    requires { ⌜ passed ≤ size ⌝ }
+    ensures number { λ r. ⌜ r ≡ 0 ⌝ }
+    ensures moved { λ _. ⌜ now (state .exit) ≡ endWords reader size count (now (state .entry)) ⌝ }
+    ensures written { λ _. ⌜ now (answer .exit) ≡ (0 ∷ getD (now (answer .entry)) 1 0 ∷ (size - passed) ∷ passed ∷ []) ⌝ }
+{
+    let lo = state[0];
+    let hi = state[1];
+    let end = size as u64;
+    let digits = count as u64;
+    let over = passed as u64;
+    let taken = end - over;
+    let by_integer = own(reader, 0, digits);
+    let by_fraction = own(reader, 1, digits);
+    let by_exponent = own(reader, 2, digits);
+    let kept = state[6];
+    let edition = state[7];
+    *state = [
+        lo,
+        hi,
+        end,
+        by_integer,
+        by_fraction,
+        by_exponent,
+        kept,
+        edition,
+    ];
+    let old = answer[1];
+    *answer = [0, old, taken, over];
+    0
+}
+
+// A cell with runs of separators, by numbers too where the reader passes them at once.
+fn next_all_runs(s: &[u8], reader: u8, state: &mut [u64; 8], answer: &mut [u64; 4]) -> u32
+    requires { ⌜ FreshWords reader (now state) ⌝ }
+    ensures number { λ r. ⌜ r ≡ takenAllBy reader (now (state .entry)) (now (s .entry)) .refusal ⌝ }
+    ensures moved { λ _. ⌜ now (state .exit) ≡ stateWords (now (state .entry)) (takenAllBy reader (now (state .entry)) (now (s .entry)) .state) ⌝ }
+    ensures written { λ _. ⌜ now (answer .exit) ≡ byteWords (now (answer .entry)) (takenAllBy reader (now (state .entry)) (now (s .entry))) ⌝ }
+{
+    let lo = state[0];
+    let hi = state[1];
+    let format = Format { lo, hi };
+    if !has_consecutive(format, reader) {
+        return next_all_any(&s[..], reader, &mut *state, &mut *answer);
+    }
+    let cell = spaced_cell(s, format.digit_separator(), radix_of(format));
+    if !cell.is_so {
+        return next_all_any(&s[..], reader, &mut *state, &mut *answer);
+    }
+    let size = s.len();
+    put_end(
+        reader,
+        size,
+        cell.count,
+        cell.passed,
+        &mut *state,
+        &mut *answer,
+    )
 }
 
 // Takes until there is no byte. Taken and passed are the sums of all the takes.
@@ -154,30 +260,17 @@ pub extern "C" fn pawhetino_next_all(
     if !has_internal(format, reader) {
         return next_all_any(&s[..], reader, &mut *state, &mut *answer);
     }
-    let runs = has_consecutive(format, reader);
-    let grouped = grouped_cell(s, separator, radix_of(format), runs);
+    let grouped = grouped_cell(s, separator, radix_of(format));
     if !grouped.is_so {
-        return next_all_any(&s[..], reader, &mut *state, &mut *answer);
+        return next_all_runs(&s[..], reader, &mut *state, &mut *answer);
     }
-    let count = grouped.count as u64;
-    let passed = grouped.passed as u64;
-    let end = s.len() as u64;
-    let taken = end - passed;
-    let by_integer = own(reader, 0, count);
-    let by_fraction = own(reader, 1, count);
-    let by_exponent = own(reader, 2, count);
-    let kept = state[6];
-    *state = [
-        lo,
-        hi,
-        end,
-        by_integer,
-        by_fraction,
-        by_exponent,
-        kept,
-        edition,
-    ];
-    let old = answer[1];
-    *answer = [0, old, taken, passed];
-    0
+    let size = s.len();
+    put_end(
+        reader,
+        size,
+        grouped.count,
+        grouped.passed,
+        &mut *state,
+        &mut *answer,
+    )
 }

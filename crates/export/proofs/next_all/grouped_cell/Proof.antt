@@ -19,12 +19,12 @@ use Rattle.export.proofs.next_all.grouped_cell.Statement.{statement}
 use Rattle.export.proofs.next_all.grouped_cell.Tie as tie
 
 abbrev Inv-loop : tie.InvT-loop
-Inv-loop s separator radix runs at₀ count₀ passed₀ at count passed =
+Inv-loop s separator radix at₀ count₀ passed₀ at count passed =
     (at ≤ length s) × (count ≤ at) × (passed ≤ at)
-    × ((x : Syntax) (f : Format) (r : Reader) → Between x separator radix r → x .flags .consecutive ≡ runs → Running (readingWith x) s r (freshOf f) at count passed)
+    × ((x : Syntax) (f : Format) (r : Reader) → Between x separator radix r → Running (readingWith x) s r (freshOf f) at count passed)
 
 abbrev μ-loop : tie.MeasureT-loop
-μ-loop s separator radix runs at₀ count₀ passed₀ at count passed = length s - at
+μ-loop s separator radix at₀ count₀ passed₀ at count passed = length s - at
 
 at-most : (t : Bool) (n : ℕ) → cond t (n + 1) n ≤ n + 1
 at-most true n = omega arith
@@ -33,7 +33,7 @@ at-most false n = omega arith
 loop-holds : tie.Need-loop-holds Inv-loop μ-loop
 loop-holds c =
     let a = c .before .args in
-    (omega arith, omega arith, omega arith, λ x f r b alike. grouped-starts (a .separator) (a .radix) (a .runs) (a .s .now) x f r b alike)
+    (omega arith, omega arith, omega arith, λ x f r b. grouped-starts (a .separator) (a .radix) (a .s .now) x f r b)
 
 shared-slice-read-b : tie.Need-shared-slice-read-b Inv-loop μ-loop
 shared-slice-read-b c = omega arith
@@ -54,16 +54,16 @@ loop-again c =
     let inside = c .before .before .before .loop-test .taken in
     let i = l .loop .inv in
     let counted : c .count-past .result ≤ l .loop .count + 1 = rw (c .count-past .ensures) (at-most (isDigit (getD (a .s .now) (l .loop .at) 0) (a .radix)) (l .loop .count)) in
-    (omega (arith, inside), omega (arith, counted, i .1), omega (arith, i .2), λ x f r b alike. rw (c .count-past .ensures) (grouped-on (a .separator) (a .radix) (a .runs) (a .s .now) x f r b alike (l .loop .at) (l .loop .count) (l .loop .passed) (i .3 x f r b alike) inside (c .before .if1 .taken)))
+    (omega (arith, inside), omega (arith, counted, i .1), omega (arith, i .2), λ x f r b. rw (c .count-past .ensures) (grouped-on (a .separator) (a .radix) (a .s .now) x f r b (l .loop .at) (l .loop .count) (l .loop .passed) (i .3 x f r b) inside (c .before .if1 .taken)))
+
+add-n : tie.Need-add-n Inv-loop μ-loop
+add-n c = omega arith
 
 not-grouped-requires : tie.Need-not-grouped-requires Inv-loop μ-loop
 not-grouped-requires c κs = search needs
 
 returns : tie.Need-returns Inv-loop μ-loop
 returns c = rw (c .not-grouped .ensures) (omega arith, λ e. absurd (false≢true e))
-
-behind-run-requires : tie.Need-behind-run-requires Inv-loop μ-loop
-behind-run-requires c κs = (c .before .before .before .before .before .before .pre, omega arith, c .before .if1 .left)
 
 not-grouped-requires-2 : tie.Need-not-grouped-requires-2 Inv-loop μ-loop
 not-grouped-requires-2 c κs = search needs
@@ -92,33 +92,29 @@ returns-4 c = rw (c .not-grouped4 .ensures) (omega arith, λ e. absurd (false≢
 add-count : tie.Need-add-count Inv-loop μ-loop
 add-count c = omega arith
 
-sub-passed : tie.Need-sub-passed Inv-loop μ-loop
-sub-passed c = omega (arith, c .before .before .before .before .before .behind-run .ensures .1)
-
 add-passed : tie.Need-add-passed Inv-loop μ-loop
-add-passed c = omega (arith, c .before .before .before .before .before .behind-run .ensures .1, c .before .before .before .before .if3 .left)
+add-passed c = omega arith
 
 add-at-2 : tie.Need-add-at-2 Inv-loop μ-loop
 add-at-2 c = omega arith
 
 loop-less-2 : tie.Need-loop-less-2 Inv-loop μ-loop
-loop-less-2 c = omega (arith, c .before .before .before .before .before .behind-run .ensures .1, c .before .before .before .before .if3 .left)
+loop-less-2 c = omega arith
 
 loop-again-2 : tie.Need-loop-again-2 Inv-loop μ-loop
 loop-again-2 c =
     let d = c .before in
-    let e = d .before in
-    let o = e .before .before in
-    let h = o .before in
-    let z = h .before in
-    let q = z .before in
+    let n = d .before in
+    let z = n .before .before in
+    let o = z .before in
+    let q = o .before in
     let t = q .before .before in
     let l = t .before in
     let a = l .before .before .args in
     let i = l .loop .inv in
-    let behind = h .behind-run .ensures in
-    let more = o .if3 .left in
-    (omega (arith, more), omega (arith, i .1, behind .1), omega (arith, i .2, behind .1), λ x f r b alike. grouped-over (a .separator) (a .radix) (a .runs) (a .s .now) x f r b alike (l .loop .at) (l .loop .count) (l .loop .passed) (i .3 x f r b alike) (t .loop-test .taken) (q .if1 .left) _ (behind .0) more (e .if4 .left) (sym (d .char-is-digit-by-range .ensures) ∙ not-false _ (c .if5 .left)) (z .if2 .left))
+    let inside = t .loop-test .taken in
+    let more = o .if2 .left in
+    (omega (arith, more), omega (arith, i .1), omega (arith, i .2), λ x f r b. grouped-over (a .separator) (a .radix) (a .s .now) x f r b (l .loop .at) (l .loop .count) (l .loop .passed) (i .3 x f r b) inside (q .if1 .left) more (n .if4 .left) (sym (d .char-is-digit-by-range .ensures) ∙ not-false _ (c .if5 .left)) (z .if3 .left))
 
 returns-5 : tie.Need-returns-5 Inv-loop μ-loop
 returns-5 c =
@@ -126,7 +122,7 @@ returns-5 c =
     let a = l .before .before .args in
     let i = l .loop .inv in
     let same : l .loop .at ≡ length (a .s .now) = omega (arith, i .0, c .loop-test .left) in
-    (omega (arith, i .2, i .0), λ so x f r b alike. grouped-out (a .separator) (a .radix) (a .runs) (a .s .now) x f r b alike (l .loop .at) (l .loop .count) (l .loop .passed) (i .3 x f r b alike) same)
+    (omega (arith, i .2, i .0), λ so x f r b. grouped-out (a .separator) (a .radix) (a .s .now) x f r b (l .loop .at) (l .loop .count) (l .loop .passed) (i .3 x f r b) same)
 
 pub grouped-cell-spec : {M : Type 1} → statement M
 grouped-cell-spec =
@@ -140,9 +136,9 @@ grouped-cell-spec =
     add-at
     loop-less
     loop-again
+    add-n
     not-grouped-requires
     returns
-    behind-run-requires
     not-grouped-requires-2
     returns-2
     shared-slice-read-c
@@ -152,7 +148,6 @@ grouped-cell-spec =
     not-grouped-requires-4
     returns-4
     add-count
-    sub-passed
     add-passed
     add-at-2
     loop-less-2

@@ -5,9 +5,9 @@ use lib.Dec.{eqb, ltb}
 use lib.ListN.{getD}
 use native.Mathlib.Omega.{arith}
 use borrow.Author.Tests.{not-false, ltb-false}
-use Rattle.export.proofs.Booleans.{left-fails, right-fails}
-use Rattle.export.proofs.FreshCells.{is-zero}
-use Rattle.export.proofs.next_all.EndWords.{end-written}
+use Rattle.export.proofs.Booleans.{left-fails}
+use Rattle.export.proofs.FreshCells.{fresh-words}
+use Rattle.export.proofs.next_all.EndWords.{grouped-written}
 use borrow.Author.Needs.{needs}
 use Rattle.export.proofs.next_all.pawhetino_next_all.Statement.{statement}
 use Rattle.export.proofs.next_all.pawhetino_next_all.Tie as tie
@@ -70,74 +70,35 @@ next-all-any-requires-4 c κs = search needs
 returns-4 : tie.Need-returns-4
 returns-4 c = search needs
 
-has-consecutive-requires : tie.Need-has-consecutive-requires
-has-consecutive-requires c κs =
-    let a = c .before .before .before .before .before .before .before .before .before .before .before .before .before .before .args in
-    let w = a .state .now in
-    let other = ltb 2 (a .reader) in
-    let moved = not (eqb (getD w 2 0) 0) in
-    let edition = not (eqb (getD w 7 0) 0) in
-    let t1 : ((other || moved) || edition) ≡ false = c .before .before .before .before .before .before .before .before .before .before .if1 .left in
-    ltb-false 2 (a .reader) (left-fails other moved (left-fails (other || moved) edition t1))
-
 radix-of-requires : tie.Need-radix-of-requires
 radix-of-requires c κs = search needs
 
 grouped-cell-requires : tie.Need-grouped-cell-requires
 grouped-cell-requires c κs = search needs
 
-next-all-any-requires-5 : tie.Need-next-all-any-requires-5
-next-all-any-requires-5 c κs = search needs
+next-all-runs-requires : tie.Need-next-all-runs-requires
+next-all-runs-requires c κs =
+    let a = c .before .before .before .before .before .before .before .before .before .before .before .before .before .before .before .before .before .before .before .before .args in
+    fresh-words (a .reader) (a .state .now) (c .before .before .before .before .before .before .before .before .before .before .before .before .before .before .before .before .if1 .left) (c .before .before .before .before .before .before .before .before .before .before .before .before .if2 .left)
+    _ (c .before .before .before .before .before .before .before .before .before .digit-separator .ensures) (λ z. c .before .before .before .before .before .before .before .before .if3 .left z) _ (c .before .before .before .before .before .before .before .has-internal .ensures) (c .before .before .before .before .before .before .if4 .left)
 
 returns-5 : tie.Need-returns-5
 returns-5 c = search needs
 
-sub-taken : tie.Need-sub-taken
-sub-taken c = search needs
-
-element-copy-out-old : tie.Need-element-copy-out-old
-element-copy-out-old c = search needs
-
-own-requires : tie.Need-own-requires
-own-requires c κs = search needs
-
-own-requires-2 : tie.Need-own-requires-2
-own-requires-2 c κs = search needs
-
-own-requires-3 : tie.Need-own-requires-3
-own-requires-3 c κs = search needs
-
-element-copy-out-kept : tie.Need-element-copy-out-kept
-element-copy-out-kept c = search needs
+put-end-requires : tie.Need-put-end-requires
+put-end-requires c κs = c .before .before .before .before .grouped-cell .ensures .0
 
 returns-6 : tie.Need-returns-6
 returns-6 c =
-    let a = c .before .before .before .before .before .before .before .before .before .before .before .before .before .before .before .before .before .before .before .before .before .before .before .before .before .before .args in
-    let w = a .state .now in
-    let other = ltb 2 (a .reader) in
-    let moved = not (eqb (getD w 2 0) 0) in
-    let edition = not (eqb (getD w 7 0) 0) in
-    let t1 : ((other || moved) || edition) ≡ false = c .before .before .before .before .before .before .before .before .before .before .before .before .before .before .before .before .before .before .before .before .before .before .if1 .left in
-    let n3 = not (eqb (getD w 3 0) 0) in
-    let n4 = not (eqb (getD w 4 0) 0) in
-    let n5 = not (eqb (getD w 5 0) 0) in
-    let t2 : ((n3 || n4) || n5) ≡ false = c .before .before .before .before .before .before .before .before .before .before .before .before .before .before .before .before .before .before .if2 .left in
-    let separator = c .before .before .before .before .before .before .before .before .before .before .before .before .before .before .before .digit-separator in
-    let internal = c .before .before .before .before .before .before .before .before .before .before .before .before .before .has-internal in
-    let cell = c .before .before .before .before .before .before .before .before .before .grouped-cell .ensures .1 (not-false _ (c .before .before .before .before .before .before .before .if5 .left)) in
-    rw (c .before .before .before .before .before .before .own .ensures, c .before .before .before .before .before .own2 .ensures, c .before .before .before .before .own3 .ensures)
-    (end-written (a .reader) w (a .s .now)
-    (ltb-false 2 (a .reader) (left-fails other moved (left-fails (other || moved) edition t1)))
-    (is-zero (getD w 7 0) (right-fails (other || moved) edition t1))
-    (is-zero (getD w 2 0) (right-fails other moved (left-fails (other || moved) edition t1)))
-    (is-zero (getD w 3 0) (left-fails n3 n4 (left-fails (n3 || n4) n5 t2)))
-    (is-zero (getD w 4 0) (right-fails n3 n4 (left-fails (n3 || n4) n5 t2)))
-    (is-zero (getD w 5 0) (right-fails (n3 || n4) n5 t2))
-    (c .before .before .before .before .before .before .before .before .before .grouped-cell .result .count) (c .before .before .before .before .before .before .before .before .before .grouped-cell .result .passed)
-    (rw (sym (separator .ensures)) (omega (arith, c .before .before .before .before .before .before .before .before .before .before .before .before .before .before .if3 .left)))
-    (sym (internal .ensures) ∙ not-false _ (c .before .before .before .before .before .before .before .before .before .before .before .before .if4 .left))
-    (rw (separator .ensures, c .before .before .before .before .before .before .before .before .before .before .before .has-consecutive .ensures, c .before .before .before .before .before .before .before .before .before .before .radix-of .ensures) at cell)
-    (a .answer .now))
+    let a = c .before .before .before .before .before .before .before .before .before .before .before .before .before .before .before .before .before .before .before .before .before .args in
+    let fresh = fresh-words (a .reader) (a .state .now) (c .before .before .before .before .before .before .before .before .before .before .before .before .before .before .before .before .before .if1 .left) (c .before .before .before .before .before .before .before .before .before .before .before .before .before .if2 .left)
+        _ (c .before .before .before .before .before .before .before .before .before .before .digit-separator .ensures) (λ z. c .before .before .before .before .before .before .before .before .before .if3 .left z) _ (c .before .before .before .before .before .before .before .before .has-internal .ensures) (c .before .before .before .before .before .before .before .if4 .left) in
+    let g = c .before .before .before .before .before .grouped-cell in
+    let cell = g .ensures .1 (not-false _ (c .before .before .before .if5 .left)) in
+    let law = grouped-written (a .reader) (a .state .now) (a .s .now) fresh (g .result .count) (g .result .passed)
+        (rw (c .before .before .before .before .before .before .before .before .before .before .digit-separator .ensures, c .before .before .before .before .before .before .radix-of .ensures) at cell) (a .answer .now) in
+    let e = c .put-end .ensures in
+    (e .0 ∙ law .0, (e .1 .0 ∙ law .1 .0, e .1 .1 ∙ law .1 .1))
 
 pub pawhetino-next-all-spec : {M : Type 1} → statement M
 pawhetino-next-all-spec =
@@ -160,15 +121,9 @@ pawhetino-next-all-spec =
     has-internal-requires
     next-all-any-requires-4
     returns-4
-    has-consecutive-requires
     radix-of-requires
     grouped-cell-requires
-    next-all-any-requires-5
+    next-all-runs-requires
     returns-5
-    sub-taken
-    own-requires
-    own-requires-2
-    own-requires-3
-    element-copy-out-kept
-    element-copy-out-old
+    put-end-requires
     returns-6)
