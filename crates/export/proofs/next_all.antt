@@ -1,3 +1,3 @@
--- Laws of the quick way of takes to the end (src/next_all.rt).
-mod GroupedCells
-mod EndWords
+-- Laws of the quick ways of takes to the end (src/next_all.rt, src/spaced.rt).
+pub mod GroupedCells
+pub mod EndWords

@@ -25,6 +25,7 @@ pub mod plain;
 pub mod read;
 pub mod reply;
 pub mod run_end;
+pub mod spaced;
 pub mod state;
 pub mod zeros;
 

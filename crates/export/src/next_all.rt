@@ -10,24 +10,23 @@ ghost use Rattle.word.specs.Digit.{isDigit};
 ghost use Rattle.export.specs.State.{stateWords};
 ghost use Rattle.export.specs.Answer.{byteWords};
 ghost use Rattle.export.specs.Calls.{takenAllBy};
-ghost use Rattle.export.specs.Code.FreshWords.{FreshWords, endWords};
-ghost use Rattle.export.specs.Code.GroupedCell.{GroupedCell, SpacedCell};
+ghost use Rattle.export.specs.Code.FreshWords.{endWords};
+ghost use Rattle.export.specs.Code.GroupedCell.{GroupedCell};
 use crate::here::radix_of;
-use crate::over::has_consecutive;
 use crate::over::has_internal;
 use crate::reply::of_answer;
 use crate::reply::put;
 use crate::reply::refused;
+use crate::spaced::next_all_runs;
 use crate::state::reader_on;
 use crate::state::state_in;
-use reader::search::search_run;
 use reader::skip::next_all;
 use reader::state::Named;
 use word::digit::char_is_digit_by_range;
 use word::format_flags::Format;
 
 // As the reader answers it.
-fn next_all_any(s: &[u8], reader: u8, state: &mut [u64; 8], answer: &mut [u64; 4]) -> u32
+pub(crate) fn next_all_any(s: &[u8], reader: u8, state: &mut [u64; 8], answer: &mut [u64; 4]) -> u32
     ensures number { λ r. ⌜ r ≡ takenAllBy reader (now (state .entry)) (now (s .entry)) .refusal ⌝ }
     ensures moved { λ _. ⌜ now (state .exit) ≡ stateWords (now (state .entry)) (takenAllBy reader (now (state .entry)) (now (s .entry)) .state) ⌝ }
     ensures written { λ _. ⌜ now (answer .exit) ≡ byteWords (now (answer .entry)) (takenAllBy reader (now (state .entry)) (now (s .entry))) ⌝ }
@@ -55,7 +54,7 @@ pub struct Grouped {
 }
 
 // The count behind a byte.
-fn count_past(b: u8, radix: u8, count: usize) -> usize
+pub(crate) fn count_past(b: u8, radix: u8, count: usize) -> usize
     requires { ⌜ count + 1 < 2 ^ 64 ⌝ }
     ensures { λ r. ⌜ r ≡ cond (isDigit b radix) (count + 1) count ⌝ }
 {
@@ -65,7 +64,7 @@ fn count_past(b: u8, radix: u8, count: usize) -> usize
     count
 }
 
-fn not_grouped() -> Grouped
+pub(crate) fn not_grouped() -> Grouped
     ensures { λ r. ⌜ r ≡ record { «is_so» = false; count = 0; passed = 0 } ⌝ }
 {
     Grouped {
@@ -114,44 +113,6 @@ fn grouped_cell(s: &[u8], separator: u8, radix: u8) -> Grouped
     }
 }
 
-// The same where a run of separators is passed at once: each run then stands right before a digit.
-fn spaced_cell(s: &[u8], separator: u8, radix: u8) -> Grouped
-    requires { ⌜ 0 < separator ⌝ }
-    ensures fits { λ p. ⌜ p .passed ≤ length (now (s .entry)) ⌝ }
-    ensures cell { λ p. ⌜ (p .«is_so» ≡ true → SpacedCell separator radix (now (s .entry)) (p .count) (p .passed)) ⌝ }
-{
-    let mut at: usize = 0;
-    let mut count: usize = 0;
-    let mut passed: usize = 0;
-    while at < s.len() {
-        let b = s[at];
-        if b != separator {
-            count = count_past(b, radix, count);
-            at += 1;
-            continue;
-        }
-        if count == 0 {
-            return not_grouped();
-        }
-        let end = search_run(s, separator, at).end;
-        if s.len() <= end {
-            return not_grouped();
-        }
-        let c = s[end];
-        if !char_is_digit_by_range(c, radix) {
-            return not_grouped();
-        }
-        count += 1;
-        passed += end - at;
-        at = end + 1;
-    }
-    Grouped {
-        is_so: true,
-        count,
-        passed,
-    }
-}
-
 // The count for the reader that it is, 0 for another.
 pub(crate) fn own(reader: u8, which: u8, count: u64) -> u64
     ensures { λ r. ⌜ r ≡ cond (eqb reader which) count 0 ⌝ }
@@ -160,7 +121,7 @@ pub(crate) fn own(reader: u8, which: u8, count: u64) -> u64
 }
 
 // Writes what takes to the end of a cell of so many bytes have come to, from a fresh state.
-fn put_end(
+pub(crate) fn put_end(
     reader: u8,
     size: usize,
     count: usize,
@@ -197,34 +158,6 @@ fn put_end(
     let old = answer[1];
     *answer = [0, old, taken, over];
     0
-}
-
-// A cell with runs of separators, by numbers too where the reader passes them at once.
-fn next_all_runs(s: &[u8], reader: u8, state: &mut [u64; 8], answer: &mut [u64; 4]) -> u32
-    requires { ⌜ FreshWords reader (now state) ⌝ }
-    ensures number { λ r. ⌜ r ≡ takenAllBy reader (now (state .entry)) (now (s .entry)) .refusal ⌝ }
-    ensures moved { λ _. ⌜ now (state .exit) ≡ stateWords (now (state .entry)) (takenAllBy reader (now (state .entry)) (now (s .entry)) .state) ⌝ }
-    ensures written { λ _. ⌜ now (answer .exit) ≡ byteWords (now (answer .entry)) (takenAllBy reader (now (state .entry)) (now (s .entry))) ⌝ }
-{
-    let lo = state[0];
-    let hi = state[1];
-    let format = Format { lo, hi };
-    if !has_consecutive(format, reader) {
-        return next_all_any(&s[..], reader, &mut *state, &mut *answer);
-    }
-    let cell = spaced_cell(s, format.digit_separator(), radix_of(format));
-    if !cell.is_so {
-        return next_all_any(&s[..], reader, &mut *state, &mut *answer);
-    }
-    let size = s.len();
-    put_end(
-        reader,
-        size,
-        cell.count,
-        cell.passed,
-        &mut *state,
-        &mut *answer,
-    )
 }
 
 // Takes until there is no byte. Taken and passed are the sums of all the takes.

@@ -97,15 +97,15 @@ fn single_steps(s: &[u8], separator: u8, at: usize) -> Steps
     ensures { λ r. ⌜ (r .steps ≡ separatorRun separator (drop at (now (s .entry)))) × (r .place ≡ at + r .steps) × (r .place ≤ length (now (s .entry))) ⌝ }
 {
     let mut place = at;
-    let mut steps: usize = 0;
+    let mut ones: usize = 0;
     while place < s.len() {
         if s[place] != separator {
-            return Steps { place, steps };
+            return Steps { place, steps: ones };
         }
         place += 1;
-        steps += 1;
+        ones += 1;
     }
-    Steps { place, steps }
+    Steps { place, steps: ones }
 }
 
 // The search from a place within the slice. Where no step is asked for, none is counted in what is compiled.

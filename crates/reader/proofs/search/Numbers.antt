@@ -35,9 +35,10 @@ module _ (base : ℕ) where
 
   -- Two numbers of so many digits are equal exactly when the digits are.
   pub equal-as-digits : (n : ℕ) (l m : List ℕ) (x y : ℕ) → NumberOf base n l x → NumberOf base n m y → (x ≡ y → l ≡ m) × (l ≡ m → x ≡ y)
-  equal-as-digits n l m x y of-l of-m =
-      (λ same. same-digits l m (of-l .below) (of-m .below) (of-l .count ∙ sym (of-m .count)) (sym (of-l .number) ∙ same ∙ of-m .number),
-      λ same. of-l .number ∙ ap (numberIn base) same ∙ sym (of-m .number))
+  equal-as-digits n l m x y of-l of-m = (
+    λ same. same-digits l m (of-l .below) (of-m .below) (of-l .count ∙ sym (of-m .count)) (sym (of-l .number) ∙ same ∙ of-m .number),
+    λ same. of-l .number ∙ ap (numberIn base) same ∙ sym (of-m .number),
+  )
 
   all-below : (l m : List ℕ) → AllBelow base l → AllBelow base m → AllBelow base (l ++ m)
   all-below [] m all all' = all'

@@ -10,10 +10,10 @@ use Rattle.reader.proofs.search.single_steps.Statement.{statement}
 use Rattle.reader.proofs.search.single_steps.Tie as tie
 
 abbrev Inv-loop : tie.InvT-loop
-Inv-loop s separator at place₀ steps₀ place steps = Stepping separator s 1 at place steps
+Inv-loop s separator at place₀ ones₀ place ones = Stepping separator s 1 at place ones
 
 abbrev μ-loop : tie.MeasureT-loop
-μ-loop s separator at place₀ steps₀ place steps = length s - place
+μ-loop s separator at place₀ ones₀ place ones = length s - place
 
 loop-holds : tie.Need-loop-holds Inv-loop μ-loop
 loop-holds c = stepping-starts _ _ 1 _ (c .pre .1)
@@ -34,8 +34,8 @@ returns c =
 add-place : tie.Need-add-place Inv-loop μ-loop
 add-place c = search needs
 
-add-steps : tie.Need-add-steps Inv-loop μ-loop
-add-steps c = omega (arith, c .before .before .before .loop .inv .stands)
+add-ones : tie.Need-add-ones Inv-loop μ-loop
+add-ones c = omega (arith, c .before .before .before .loop .inv .stands)
 
 loop-less : tie.Need-loop-less Inv-loop μ-loop
 loop-less c = search needs
@@ -64,7 +64,7 @@ single-steps-spec =
     shared-slice-read-if1
     returns
     add-place
-    add-steps
+    add-ones
     loop-less
     loop-again
     returns-2)

@@ -1,11 +1,12 @@
--- `export::next_all::next_all_runs` meets its contract: a cell whose runs each stand before a digit is taken by numbers, any other is left
+-- `export::spaced::next_all_runs` meets its contract: a cell whose runs each stand before a digit is taken by numbers, any other is left
 -- to the reader. Assumes nothing.
 use mathlib.Core.Path.{_≡_, sym, _∙_}
+use native.Mathlib.Omega.{arith}
 use borrow.Author.Tests.{not-false}
 use Rattle.export.proofs.next_all.EndWords.{spaced-written}
 use borrow.Author.Needs.{needs}
-use Rattle.export.proofs.next_all.next_all_runs.Statement.{statement}
-use Rattle.export.proofs.next_all.next_all_runs.Tie as tie
+use Rattle.export.proofs.spaced.next_all_runs.Statement.{statement}
+use Rattle.export.proofs.spaced.next_all_runs.Tie as tie
 
 element-copy-out-lo : tie.Need-element-copy-out-lo
 element-copy-out-lo c = search needs
@@ -14,7 +15,7 @@ element-copy-out-hi : tie.Need-element-copy-out-hi
 element-copy-out-hi c = search needs
 
 has-consecutive-requires : tie.Need-has-consecutive-requires
-has-consecutive-requires c κs = c .before .before .before .pre .low
+has-consecutive-requires c κs = omega (arith, c .before .before .before .pre .low)
 
 next-all-any-requires : tie.Need-next-all-any-requires
 next-all-any-requires c κs = search needs
@@ -48,8 +49,8 @@ returns-3 c =
     let cell = z .ensures .1 (not-false _ (c .before .before .before .if2 .left)) in
     let runs = c .before .before .before .before .before .before .before .before .before .has-consecutive in
     let law = spaced-written (a .reader) (a .state .now) (a .s .now) (k .pre) (z .result .count) (z .result .passed)
-        (rw (c .before .before .before .before .before .before .before .digit-separator .ensures, c .before .before .before .before .before .before .radix-of .ensures) at cell)
-        (sym (runs .ensures) ∙ not-false _ (c .before .before .before .before .before .before .before .before .if1 .left)) (a .answer .now) in
+    (rw (c .before .before .before .before .before .before .before .digit-separator .ensures, c .before .before .before .before .before .before .radix-of .ensures) at cell)
+    (sym (runs .ensures) ∙ not-false _ (c .before .before .before .before .before .before .before .before .if1 .left)) (a .answer .now) in
     let e = c .put-end .ensures in
     (e .0 ∙ law .0, (e .1 .0 ∙ law .1 .0, e .1 .1 ∙ law .1 .1))
 

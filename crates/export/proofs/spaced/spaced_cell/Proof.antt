@@ -1,4 +1,4 @@
--- `export::next_all::spaced_cell` meets its contract: at every turn its numbers are those of the takes. Assumes nothing.
+-- `export::spaced::spaced_cell` meets its contract: at every turn its numbers are those of the takes. Assumes nothing.
 use mathlib.Core.Path.{_≡_, sym, _∙_, ap}
 use mathlib.Core.Bool.{Bool, true, false, cond, false≢true}
 use Prim.Native.Nat.{ℕ, _+_, _-_, _≤_, _<_}
@@ -17,8 +17,8 @@ use Rattle.reader.proofs.passing.RefusedRuns.{goes-on}
 use Rattle.reader.proofs.skip.TakeLoop.{Running}
 use Rattle.export.specs.Code.GroupedCell.{Between}
 use Rattle.export.proofs.next_all.GroupedCells.{grouped-starts, grouped-on, spaced-over, grouped-out}
-use Rattle.export.proofs.next_all.spaced_cell.Statement.{statement}
-use Rattle.export.proofs.next_all.spaced_cell.Tie as tie
+use Rattle.export.proofs.spaced.spaced_cell.Statement.{statement}
+use Rattle.export.proofs.spaced.spaced_cell.Tie as tie
 
 abbrev Inv-loop : tie.InvT-loop
 Inv-loop s separator radix at₀ count₀ passed₀ at count passed =
