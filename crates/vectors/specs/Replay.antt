@@ -1,7 +1,8 @@
 -- What a record is compared with: the definitions that our library is proved to meet. So a record that is found the
--- same shows that they agree with the Rust there. Assumes nothing.
+-- same shows that they agree with the Rust there, or with a plain count at the end of a run. Assumes nothing.
 use Prim.Native.Nat.{ℕ, _^_}
 use mathlib.Core.Bool.{cond, _&&_}
+use mathlib.Core.List.{[], _∷_}
 use lib.Dec.{eqb, ltb}
 use lib.ListN.{getD}
 use Rattle.word.specs.Check.{fullCheck, plainCheck}
@@ -11,10 +12,11 @@ use Rattle.vectors.specs.declared.call.Repeated.{Repeated}
 use Rattle.vectors.specs.declared.call.Repeated.the-variants.{Packed, NoCall}
 use Rattle.vectors.specs.declared.record.Record.{Record}
 use Rattle.vectors.specs.declared.replay.Answer.{Answer}
-use Rattle.vectors.specs.declared.replay.Answer.the-variants.{Full, Plain, Digit, Call}
+use Rattle.vectors.specs.declared.replay.Answer.the-variants.{Full, Plain, Digit, Call, RunEnd}
 use Rattle.vectors.specs.declared.replay.Verdict.{Verdict}
 use Rattle.vectors.specs.declared.replay.Verdict.the-variants.{Same, Differs, NoRecord}
 use Rattle.vectors.specs.Call.{repeatedOf}
+use Rattle.vectors.specs.RunEnd.{searchedOf}
 
 -- the verdict on one answer
 unfoldable pub verdict : Answer → ℕ → ℕ → Verdict
@@ -48,19 +50,29 @@ digitVerdict r =
     (verdict Digit (value r 2) (cond (isDigit (value r 0) (value r 1)) 1 0))
     NoRecord
 
--- `R what lo hi bytes answer`, of 16 digits each: the answer beside that of the definitions to the same call
-abbrev pub beside : ℕ → Repeated → Verdict
-beside recorded (Packed answered) = verdict Call recorded answered
-beside recorded NoCall = NoRecord
+-- a recorded answer beside that of the definitions to the same call
+abbrev pub beside : Answer → ℕ → Repeated → Verdict
+beside answer recorded (Packed answered) = verdict answer recorded answered
+beside answer recorded NoCall = NoRecord
 
+-- `R what lo hi bytes answer`, of 16 digits each
 unfoldable pub callVerdict : Record → Verdict
 callVerdict r =
     cond (eqb (r .shape) 0x1010101010)
-    (beside (value r 4) (repeatedOf (value r 0) (record { lo = value r 1; hi = value r 2 }) (value r 3)))
+    (beside Call (value r 4) (repeatedOf (value r 0) (record { lo = value r 1; hi = value r 2 }) (value r 3)))
     NoRecord
 
--- by the kind: `W` is 87, `D` is 68 and `R` is 82
+-- `E what b0 b1 b2 b3 b4 answer`, of 16 digits each: a search for the end of a run
+unfoldable pub runEndVerdict : Record → Verdict
+runEndVerdict r =
+    cond (eqb (r .shape) 0x10101010101010)
+    (beside RunEnd (value r 6) (searchedOf (value r 0) (value r 1 ∷ value r 2 ∷ value r 3 ∷ value r 4 ∷ value r 5 ∷ [])))
+    NoRecord
+
+-- by the kind: `W` is 87, `D` is 68, `R` is 82 and `E` is 69
 unfoldable pub verdictOf : Record → Verdict
 verdictOf r =
     cond (eqb (r .kind) 87) (wordVerdict r)
-    (cond (eqb (r .kind) 68) (digitVerdict r) (cond (eqb (r .kind) 82) (callVerdict r) NoRecord))
+    (cond (eqb (r .kind) 68) (digitVerdict r)
+    (cond (eqb (r .kind) 82) (callVerdict r)
+    (cond (eqb (r .kind) 69) (runEndVerdict r) NoRecord)))

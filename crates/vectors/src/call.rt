@@ -47,7 +47,7 @@ pub enum Repeated {
     NoCall,
 }
 
-fn buffer_of(bytes: u64) -> [u8; MOST]
+pub(crate) fn buffer_of(bytes: u64) -> [u8; MOST]
     ensures { λ r. ⌜ r ≡ bufferOf bytes ⌝ }
 {
     [

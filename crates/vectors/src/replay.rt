@@ -1,12 +1,13 @@
-// Asks our library what a record asked the Rust, and compares the answers.
+// Asks our library what a record asked, and compares the answers.
 ghost use mathlib.Core.Path.{_≡_};
 ghost use mathlib.Core.Bool.{cond};
 ghost use Rattle.word.specs.Check.{fullCheck, plainCheck};
 ghost use Rattle.word.specs.Digit.{isDigit};
-ghost use Rattle.vectors.specs.Replay.{verdict, orElse, verdictOf, wordVerdict, digitVerdict, callVerdict};
+ghost use Rattle.vectors.specs.Replay.{verdict, orElse, beside, verdictOf, wordVerdict, digitVerdict, callVerdict, runEndVerdict};
 use crate::call::Repeated;
 use crate::call::repeat;
 use crate::record::Record;
+use crate::run_end::search_again;
 use word::format_flags::Format;
 
 // `W lo hi full plain`: a word and the answers of both checks.
@@ -24,12 +25,19 @@ pub const CALL: u8 = b'R';
 
 const CALL_SHAPE: u64 = 0x10_10_10_10_10;
 
+// `E what b0 b1 b2 b3 b4 answer`: a search for the end of a run, in packed numbers. The answer is a plain count's, since
+// the crate does not tell it.
+pub const RUN_END: u8 = b'E';
+
+const RUN_END_SHAPE: u64 = 0x10_10_10_10_10_10_10;
+
 // Which answer of a record it is.
 pub enum Answer {
     Full,
     Plain,
     Digit,
     Call,
+    RunEnd,
 }
 
 pub struct Difference {
@@ -54,6 +62,7 @@ pub fn compare(parsed: Record) -> Verdict
         WORD => compare_word(parsed),
         DIGIT => compare_digit(parsed),
         CALL => compare_call(parsed),
+        RUN_END => compare_run_end(parsed),
         _ => Verdict::NoRecord,
     }
 }
@@ -70,8 +79,27 @@ fn compare_call(parsed: Record) -> Verdict
         hi: values[2],
     };
     let repeated = repeat(values[0], format, values[3]);
+    beside(Answer::Call, values[4], repeated)
+}
+
+fn compare_run_end(parsed: Record) -> Verdict
+    ensures { λ r. ⌜ r ≡ runEndVerdict parsed ⌝ }
+{
+    if parsed.shape != RUN_END_SHAPE {
+        return Verdict::NoRecord;
+    }
+    let values = parsed.values;
+    let numbers = [values[1], values[2], values[3], values[4], values[5]];
+    let repeated = search_again(values[0], numbers);
+    beside(Answer::RunEnd, values[6], repeated)
+}
+
+// What asks for no call is no record.
+fn beside(answer: Answer, recorded: u64, repeated: Repeated) -> Verdict
+    ensures { λ r. ⌜ r ≡ beside answer recorded repeated ⌝ }
+{
     match repeated {
-        Repeated::Packed(answered) => settle(Answer::Call, values[4], answered),
+        Repeated::Packed(answered) => settle(answer, recorded, answered),
         Repeated::NoCall => Verdict::NoRecord,
     }
 }

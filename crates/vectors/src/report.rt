@@ -67,6 +67,7 @@ impl Text {
             Answer::Plain => self.then(b"plain"),
             Answer::Digit => self.then(b"digit"),
             Answer::Call => self.then(b"call"),
+            Answer::RunEnd => self.then(b"run end"),
         }
     }
 
@@ -117,6 +118,7 @@ pub fn sum_up(tally: Tally) {
         .count(tally.words, b" words, ")
         .count(tally.digits, b" digits, ")
         .count(tally.calls, b" reader calls, ")
+        .count(tally.run_ends, b" run ends, ")
         .number(tally.others)
         .then(b" lines that are no record\n")
         .write();

@@ -4,6 +4,7 @@ ghost use Rattle.vectors.specs.Lines.{oneMore, oneLine, ofItsKind, talli
 use crate::record::NO_RECORD;
 use crate::replay::CALL;
 use crate::replay::DIGIT;
+use crate::replay::RUN_END;
 use crate::replay::Verdict;
 use crate::replay::WORD;
 
@@ -16,6 +17,7 @@ pub struct Tally {
     pub words: Count,
     pub digits: Count,
     pub calls: Count,
+    pub run_ends: Count,
     pub others: u64,
 }
 
@@ -50,6 +52,7 @@ impl Tally {
             words: none,
             digits: none,
             calls: none,
+            run_ends: none,
             others: 0,
         }
     }
@@ -81,6 +84,10 @@ impl Tally {
             CALL => {
                 let calls = self.calls.with(differs);
                 self.calls = calls;
+            }
+            RUN_END => {
+                let run_ends = self.run_ends.with(differs);
+                self.run_ends = run_ends;
             }
             _ => {
                 self.others = one_more(self.others);

@@ -1,6 +1,6 @@
 -- `vectors::replay::compare` meets its contract. Assumes nothing.
 use borrow.Author.Tests.{eq-eqb, ne-eqb}
-use Rattle.vectors.specs.Replay.{verdictOf, digitVerdict, callVerdict}
+use Rattle.vectors.specs.Replay.{verdictOf, digitVerdict, callVerdict, runEndVerdict}
 use borrow.Author.Needs.{needs}
 use Rattle.vectors.proofs.replay.compare.Statement.{statement}
 use Rattle.vectors.proofs.replay.compare.Tie as tie
@@ -13,6 +13,9 @@ compare-digit-requires c κs = search needs
 
 compare-call-requires : tie.Need-compare-call-requires
 compare-call-requires c κs = search needs
+
+compare-run-end-requires : tie.Need-compare-run-end-requires
+compare-run-end-requires c κs = search needs
 
 returns : tie.Need-returns
 unfolding verdictOf
@@ -27,11 +30,25 @@ unfolding verdictOf callVerdict
 returns-3 c = rw (c .before .match .keys3) (c .compare-call .ensures)
 
 returns-4 : tie.Need-returns-4
+unfolding verdictOf runEndVerdict
+returns-4 c = rw (c .before .match .keys4) (c .compare-run-end .ensures)
+
+returns-5 : tie.Need-returns-5
 unfolding verdictOf
-returns-4 c =
-    rw (ne-eqb _ _ (c .match .rest .0 .0 .1), ne-eqb _ _ (c .match .rest .0 .1), ne-eqb _ _ (c .match .rest .1))
+returns-5 c =
+    let rest = c .match .rest in
+    rw (ne-eqb _ _ (rest .0 .0 .0 .1), ne-eqb _ _ (rest .0 .0 .1), ne-eqb _ _ (rest .0 .1), ne-eqb _ _ (rest .1))
 
 pub compare-spec : {M : Type 1} → statement M
 compare-spec =
     tie.close
-    (tie.spec compare-word-requires compare-digit-requires compare-call-requires returns returns-2 returns-3 returns-4)
+    (tie.spec
+    compare-word-requires
+    compare-digit-requires
+    compare-call-requires
+    compare-run-end-requires
+    returns
+    returns-2
+    returns-3
+    returns-4
+    returns-5)

@@ -1,6 +1,7 @@
 -- `vectors::replay::compare_call` meets its contract. Assumes nothing.
-use mathlib.Core.Path.{_∙_, ap, sym}
+use mathlib.Core.Path.{_∙_, ap}
 use borrow.Author.Tests.{eq-eqb, ne-eqb}
+use Rattle.vectors.specs.declared.replay.Answer.the-variants.{Call}
 use Rattle.vectors.specs.Replay.{value, beside, callVerdict}
 use borrow.Author.Needs.{needs}
 use Rattle.vectors.proofs.replay.compare_call.Statement.{statement}
@@ -25,30 +26,18 @@ array-read-repeat-4 c = search needs
 repeat-requires : tie.Need-repeat-requires
 repeat-requires c κs = search needs
 
-enum-known-repeated : tie.Need-enum-known-repeated
-enum-known-repeated c = search needs
+array-read-beside : tie.Need-array-read-beside
+array-read-beside c = search needs
 
-array-read-settle : tie.Need-array-read-settle
-array-read-settle c = search needs
-
-settle-requires : tie.Need-settle-requires
-settle-requires c κs = search needs
-
-enum-told : tie.Need-enum-told
-enum-told c = search needs
+beside-requires : tie.Need-beside-requires
+beside-requires c κs = search needs
 
 returns-2 : tie.Need-returns-2
 unfolding callVerdict
 returns-2 c =
-    let p = c .before .before .before .before .before .before .before .before .args .parsed in
-    rw (eq-eqb _ _ (c .before .before .before .before .before .before .if1 .left))
-    (c .settle .ensures ∙ ap (beside (value p 4)) (sym (c .before .before .repeated .given .1) ∙ c .before .before .before .before .repeat .ensures))
-
-returns-3 : tie.Need-returns-3
-unfolding callVerdict
-returns-3 c =
-    let p = c .before .before .before .before .before .before .args .parsed in
-    rw (eq-eqb _ _ (c .before .before .before .before .if1 .left)) (ap (beside (value p 4)) (sym (c .enum-told .given .1) ∙ c .before .before .repeat .ensures))
+    let p = c .before .before .before .before .before .args .parsed in
+    rw (eq-eqb _ _ (c .before .before .before .if1 .left))
+    (c .beside .ensures ∙ ap (beside Call (value p 4)) (c .before .repeat .ensures))
 
 pub compare-call-spec : {M : Type 1} → statement M
 compare-call-spec =
@@ -60,9 +49,6 @@ compare-call-spec =
     array-read-repeat-3
     array-read-repeat-4
     repeat-requires
-    enum-known-repeated
-    array-read-settle
-    settle-requires
-    enum-told
-    returns-2
-    returns-3)
+    array-read-beside
+    beside-requires
+    returns-2)

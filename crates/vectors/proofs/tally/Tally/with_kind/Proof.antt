@@ -14,6 +14,9 @@ with-requires-2 c κs = search needs
 with-requires-3 : tie.Need-with-requires-3
 with-requires-3 c κs = search needs
 
+with-requires-4 : tie.Need-with-requires-4
+with-requires-4 c κs = search needs
+
 one-more-requires : tie.Need-one-more-requires
 one-more-requires c κs = search needs
 
@@ -31,9 +34,13 @@ returns-3 c = rw (c .before .match .keys3, c .with3 .ensures)
 
 returns-4 : tie.Need-returns-4
 unfolding ofItsKind
-returns-4 c =
+returns-4 c = rw (c .before .match .keys4, c .with4 .ensures)
+
+returns-5 : tie.Need-returns-5
+unfolding ofItsKind
+returns-5 c =
     let rest = c .before .match .rest in
-    rw (ne-eqb _ _ (rest .0 .0 .1), ne-eqb _ _ (rest .0 .1), ne-eqb _ _ (rest .1), c .one-more .ensures)
+    rw (ne-eqb _ _ (rest .0 .0 .0 .1), ne-eqb _ _ (rest .0 .0 .1), ne-eqb _ _ (rest .0 .1), ne-eqb _ _ (rest .1), c .one-more .ensures)
 
 pub with-kind-spec : {M : Type 1} → statement M
 with-kind-spec =
@@ -42,8 +49,10 @@ with-kind-spec =
     with-requires
     with-requires-2
     with-requires-3
+    with-requires-4
     one-more-requires
     returns
     returns-2
     returns-3
-    returns-4)
+    returns-4
+    returns-5)

@@ -1,0 +1,2 @@
+-- A recorded search made again (src/run_end.rt).
+mod LongBuffers
