@@ -13,10 +13,17 @@ const LONGEST: usize = 300;
 /// No byte, a digit that can be skipped too, another byte.
 const NEIGHBOURS: [&[u8]; 3] = [b"", b"0", b"x"];
 
-const CALLS: [Call; 4] = [Call::Peek, Call::Next, Call::SkipZeros, Call::DigitRun];
+const CALLS: [Call; 5] = [
+    Call::Peek,
+    Call::Next,
+    Call::NextAll,
+    Call::SkipZeros,
+    Call::DigitRun,
+];
 
 pub fn run(report: &mut Report) {
-    let mut group = Group::new("readers, long runs, peek, next, skip_zeros and digit_run");
+    let mut group =
+        Group::new("readers, long runs, peek, next, next_all, skip_zeros and digit_run");
     let mut first = None;
     let decimal = compiled()
         .iter()
@@ -27,7 +34,8 @@ pub fn run(report: &mut Report) {
                 for after in NEIGHBOURS {
                     let buffer = [before, &b"_".repeat(length), after].concat();
                     let start = before.len();
-                    for cursor in [start, start + length / 2] {
+                    // From the start on a cell is fresh, and may be read by numbers alone.
+                    for cursor in [0, start, start + length / 2] {
                         compare_at(&mut group, &mut first, rust, &buffer, cursor);
                     }
                 }
