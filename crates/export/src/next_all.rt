@@ -46,9 +46,11 @@ pub(crate) fn next_all_any(s: &[u8], reader: u8, state: &mut [u64; 8], answer: &
     }
 }
 
-// What a grouped cell comes to: whether it is one, and then its digits and the separators passed.
+// What a grouped cell comes to: whether it is one, and then its digits and the separators passed; if not, whether two separators side by
+// side were met.
 pub struct Grouped {
     pub is_so: bool,
+    pub has_run: bool,
     pub count: usize,
     pub passed: usize,
 }
@@ -64,11 +66,12 @@ pub(crate) fn count_past(b: u8, radix: u8, count: usize) -> usize
     count
 }
 
-pub(crate) fn not_grouped() -> Grouped
-    ensures { λ r. ⌜ r ≡ record { «is_so» = false; count = 0; passed = 0 } ⌝ }
+pub(crate) fn not_grouped(run: bool) -> Grouped
+    ensures { λ r. ⌜ r ≡ record { «is_so» = false; «has_run» = run; count = 0; passed = 0 } ⌝ }
 {
     Grouped {
         is_so: false,
+        has_run: run,
         count: 0,
         passed: 0,
     }
@@ -90,17 +93,17 @@ fn grouped_cell(s: &[u8], separator: u8, radix: u8) -> Grouped
         }
         let n = at + 1;
         if s.len() <= n {
-            return not_grouped();
+            return not_grouped(false);
         }
         if count == 0 {
-            return not_grouped();
+            return not_grouped(false);
         }
         let c = s[n];
         if c == separator {
-            return not_grouped();
+            return not_grouped(true);
         }
         if !char_is_digit_by_range(c, radix) {
-            return not_grouped();
+            return not_grouped(false);
         }
         count += 1;
         passed += 1;
@@ -108,6 +111,7 @@ fn grouped_cell(s: &[u8], separator: u8, radix: u8) -> Grouped
     }
     Grouped {
         is_so: true,
+        has_run: false,
         count,
         passed,
     }
@@ -194,8 +198,11 @@ pub extern "C" fn pawhetino_next_all(
         return next_all_any(&s[..], reader, &mut *state, &mut *answer);
     }
     let grouped = grouped_cell(s, separator, radix_of(format));
-    if !grouped.is_so {
+    if grouped.has_run {
         return next_all_runs(&s[..], reader, &mut *state, &mut *answer);
+    }
+    if !grouped.is_so {
+        return next_all_any(&s[..], reader, &mut *state, &mut *answer);
     }
     let size = s.len();
     put_end(

@@ -37,15 +37,15 @@ fn spaced_cell(s: &[u8], separator: u8, radix: u8) -> Grouped
             continue;
         }
         if count == 0 {
-            return not_grouped();
+            return not_grouped(false);
         }
         let end = search_run(s, separator, at).end;
         if s.len() <= end {
-            return not_grouped();
+            return not_grouped(false);
         }
         let c = s[end];
         if !char_is_digit_by_range(c, radix) {
-            return not_grouped();
+            return not_grouped(false);
         }
         count += 1;
         passed += end - at;
@@ -53,6 +53,7 @@ fn spaced_cell(s: &[u8], separator: u8, radix: u8) -> Grouped
     }
     Grouped {
         is_so: true,
+        has_run: true,
         count,
         passed,
     }

@@ -78,25 +78,31 @@ grouped-cell-requires c κs = search needs
 
 next-all-runs-requires : tie.Need-next-all-runs-requires
 next-all-runs-requires c κs =
-    let a = c .before .before .before .before .before .before .before .before .before .before .before .before .before .before .before .before .before .before .before .before .args in
-    fresh-words (a .reader) (a .state .now) (c .before .before .before .before .before .before .before .before .before .before .before .before .before .before .before .before .if1 .left) (c .before .before .before .before .before .before .before .before .before .before .before .before .if2 .left)
-    _ (c .before .before .before .before .before .before .before .before .before .digit-separator .ensures) (λ z. c .before .before .before .before .before .before .before .before .if3 .left z) _ (c .before .before .before .before .before .before .before .has-internal .ensures) (c .before .before .before .before .before .before .if4 .left)
+    let a = c .before .before .before .before .before .before .before .before .before .before .before .before .before .before .before .before .before .before .before .args in
+    fresh-words (a .reader) (a .state .now) (c .before .before .before .before .before .before .before .before .before .before .before .before .before .before .before .if1 .left) (c .before .before .before .before .before .before .before .before .before .before .before .if2 .left)
+    _ (c .before .before .before .before .before .before .before .before .digit-separator .ensures) (λ z. c .before .before .before .before .before .before .before .if3 .left z) _ (c .before .before .before .before .before .before .has-internal .ensures) (c .before .before .before .before .before .if4 .left)
 
 returns-5 : tie.Need-returns-5
 returns-5 c = search needs
 
-put-end-requires : tie.Need-put-end-requires
-put-end-requires c κs = c .before .before .before .before .grouped-cell .ensures .0
+next-all-any-requires-5 : tie.Need-next-all-any-requires-5
+next-all-any-requires-5 c κs = search needs
 
 returns-6 : tie.Need-returns-6
-returns-6 c =
-    let a = c .before .before .before .before .before .before .before .before .before .before .before .before .before .before .before .before .before .before .before .before .before .args in
-    let fresh = fresh-words (a .reader) (a .state .now) (c .before .before .before .before .before .before .before .before .before .before .before .before .before .before .before .before .before .if1 .left) (c .before .before .before .before .before .before .before .before .before .before .before .before .before .if2 .left)
-    _ (c .before .before .before .before .before .before .before .before .before .before .digit-separator .ensures) (λ z. c .before .before .before .before .before .before .before .before .before .if3 .left z) _ (c .before .before .before .before .before .before .before .before .has-internal .ensures) (c .before .before .before .before .before .before .before .if4 .left) in
-    let g = c .before .before .before .before .before .grouped-cell in
-    let cell = g .ensures .1 (not-false _ (c .before .before .before .if5 .left)) in
+returns-6 c = search needs
+
+put-end-requires : tie.Need-put-end-requires
+put-end-requires c κs = c .before .before .before .before .before .grouped-cell .ensures .0
+
+returns-7 : tie.Need-returns-7
+returns-7 c =
+    let a = c .before .before .before .before .before .before .before .before .before .before .before .before .before .before .before .before .before .before .before .before .before .before .args in
+    let fresh = fresh-words (a .reader) (a .state .now) (c .before .before .before .before .before .before .before .before .before .before .before .before .before .before .before .before .before .before .if1 .left) (c .before .before .before .before .before .before .before .before .before .before .before .before .before .before .if2 .left)
+    _ (c .before .before .before .before .before .before .before .before .before .before .before .digit-separator .ensures) (λ z. c .before .before .before .before .before .before .before .before .before .before .if3 .left z) _ (c .before .before .before .before .before .before .before .before .before .has-internal .ensures) (c .before .before .before .before .before .before .before .before .if4 .left) in
+    let g = c .before .before .before .before .before .before .grouped-cell in
+    let cell = g .ensures .1 (not-false _ (c .before .before .before .if6 .left)) in
     let law = grouped-written (a .reader) (a .state .now) (a .s .now) fresh (g .result .count) (g .result .passed)
-    (rw (c .before .before .before .before .before .before .before .before .before .before .digit-separator .ensures, c .before .before .before .before .before .before .radix-of .ensures) at cell) (a .answer .now) in
+    (rw (c .before .before .before .before .before .before .before .before .before .before .before .digit-separator .ensures, c .before .before .before .before .before .before .before .radix-of .ensures) at cell) (a .answer .now) in
     let e = c .put-end .ensures in
     (e .0 ∙ law .0, (e .1 .0 ∙ law .1 .0, e .1 .1 ∙ law .1 .1))
 
@@ -125,5 +131,7 @@ pawhetino-next-all-spec =
     grouped-cell-requires
     next-all-runs-requires
     returns-5
+    next-all-any-requires-5
+    returns-6
     put-end-requires
-    returns-6)
+    returns-7)
