@@ -3,7 +3,7 @@ use Prim.Native.Nat.{ℕ}
 use mathlib.Core.List.{List, [], _∷_}
 use mathlib.Core.Option.{Option, some, none}
 use lib.ListN.{getD}
-use Rattle.reader.specs.Answer.{Outcome, SkipOutcome, BlockOutcome}
+use Rattle.reader.specs.Answer.{Outcome, ReadOutcome, SkipOutcome, BlockOutcome}
 use Rattle.cells.specs.DigitRun.{RunOutcome}
 
 -- whether there is something, and what it is, or without it what the caller had there
@@ -18,6 +18,16 @@ orOld old (some b) = b
 -- of a call that answers a byte: whether there is one, the byte, how many bytes were taken, how many separators passed
 abbrev pub byteWords : List ℕ → Outcome → List ℕ
 byteWords old o = isThere (o .byte) ∷ orOld (getD old 1 0) (o .byte) ∷ o .taken ∷ o .passed ∷ []
+
+-- how a conditional read ended: 0 the end, 1 taken, 2 declined
+abbrev pub howRead : (byte seen : Option ℕ) → ℕ
+howRead (some b) seen = 1
+howRead none (some b) = 2
+howRead none none = 0
+
+-- of a conditional read: how it ended, the byte taken or declined, taken, passed
+abbrev pub readWords : List ℕ → ReadOutcome → List ℕ
+readWords old o = howRead (o .outcome .byte) (o .seen) ∷ orOld (getD old 1 0) (o .seen) ∷ o .outcome .taken ∷ o .outcome .passed ∷ []
 
 -- of a zero skip: 0, how many zeros, taken, passed
 abbrev pub zerosWords : List ℕ → SkipOutcome → List ℕ

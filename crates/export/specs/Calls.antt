@@ -6,9 +6,9 @@ use mathlib.Core.List.{List, [], _∷_}
 use mathlib.Core.Option.{none}
 use lib.ListN.{getD}
 use Rattle.word.specs.declared.byte_set.ByteSet.{ByteSet}
-use Rattle.reader.specs.Answer.{Outcome, CountOutcome, SkipOutcome, BlockOutcome}
+use Rattle.reader.specs.Answer.{Outcome, ReadOutcome, CountOutcome, SkipOutcome, BlockOutcome}
 use Rattle.reader.specs.Reading.{syntaxFor, readingFor}
-use Rattle.reader.specs.Calls.{peekOf, nextOf, nextAllOf, readIfOf, currentCountOf, refused}
+use Rattle.reader.specs.Calls.{peekOf, nextOf, nextAllOf, readOf, currentCountOf, refused, refusedRead}
 use Rattle.reader.specs.ZeroSkip.{refusedSkip, skipZerosOf}
 use Rattle.reader.specs.Block.{refusedBlock, takeNOf}
 use Rattle.cells.specs.DigitRun.{RunOutcome, refusedRun, digitRunOf}
@@ -25,9 +25,9 @@ unfoldable pub takenAllBy : ℕ → List ℕ → List ℕ → Outcome
 takenAllBy n w s = byReader (readerOn n (getD w 7 0)) (refused 19 (stateIn w)) (λ r. nextAllOf (readingFor (stateIn w) r) s (stateIn w) r)
 
 -- a conditional read, and the set that four words are
-unfoldable pub readBy : ℕ → List ℕ → List ℕ → (ℕ → Bool) → Outcome
+unfoldable pub readBy : ℕ → List ℕ → List ℕ → (ℕ → Bool) → ReadOutcome
 readBy n w s wanted =
-    byReader (readerOn n (getD w 7 0)) (refused 19 (stateIn w)) (λ r. readIfOf (readingFor (stateIn w) r) s (stateIn w) r wanted)
+    byReader (readerOn n (getD w 7 0)) (refusedRead 19 (stateIn w)) (λ r. readOf (readingFor (stateIn w) r) s (stateIn w) r wanted)
 
 abbrev pub setIn : List ℕ → ByteSet
 setIn set = record { bits = getD set 0 0 ∷ getD set 1 0 ∷ getD set 2 0 ∷ getD set 3 0 ∷ [] }

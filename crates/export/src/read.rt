@@ -6,13 +6,14 @@ ghost use mathlib.Core.List.{[], _∷_};
 ghost use mathlib.Core.Bool.{false};
 ghost use lib.ListN.{getD};
 ghost use Rattle.word.specs.ByteSet.{member};
-ghost use Rattle.export.specs.State.{stateWords};
-ghost use Rattle.export.specs.Answer.{byteWords};
+ghost use Rattle.export.specs.State.{stateIn, stateWords};
+ghost use Rattle.export.specs.Answer.{readWords};
 ghost use Rattle.export.specs.Calls.{readBy, setIn};
 ghost use Rattle.export.specs.Code.Here.{wordsAt};
 use crate::here::Here;
 use crate::here::answer_none;
 use crate::here::found_here;
+use crate::here::keep;
 use crate::here::put_at;
 use crate::reply::of_read;
 use crate::reply::put;
@@ -54,9 +55,9 @@ fn read_any(
     answer: &mut [u64; 4],
     set: &[u64; 4],
 ) -> u32
-    ensures number { λ r. ⌜ r ≡ readBy reader (now (state .entry)) (now (s .entry)) (member (setIn (now (set .entry)))) .refusal ⌝ }
-    ensures moved { λ _. ⌜ now (state .exit) ≡ stateWords (now (state .entry)) (readBy reader (now (state .entry)) (now (s .entry)) (member (setIn (now (set .entry)))) .state) ⌝ }
-    ensures written { λ _. ⌜ now (answer .exit) ≡ byteWords (now (answer .entry)) (readBy reader (now (state .entry)) (now (s .entry)) (member (setIn (now (set .entry))))) ⌝ }
+    ensures number { λ r. ⌜ r ≡ readBy reader (now (state .entry)) (now (s .entry)) (member (setIn (now (set .entry)))) .outcome .refusal ⌝ }
+    ensures moved { λ _. ⌜ now (state .exit) ≡ stateWords (now (state .entry)) (readBy reader (now (state .entry)) (now (s .entry)) (member (setIn (now (set .entry)))) .outcome .state) ⌝ }
+    ensures written { λ _. ⌜ now (answer .exit) ≡ readWords (now (answer .entry)) (readBy reader (now (state .entry)) (now (s .entry)) (member (setIn (now (set .entry))))) ⌝ }
 {
     let old = answer[1];
     let wanted = set_in(set);
@@ -82,9 +83,9 @@ fn read_value_any(
     answer: &mut [u64; 4],
     value: u8,
 ) -> u32
-    ensures number { λ r. ⌜ r ≡ readBy reader (now (state .entry)) (now (s .entry)) (λ b. eqb b value) .refusal ⌝ }
-    ensures moved { λ _. ⌜ now (state .exit) ≡ stateWords (now (state .entry)) (readBy reader (now (state .entry)) (now (s .entry)) (λ b. eqb b value) .state) ⌝ }
-    ensures written { λ _. ⌜ now (answer .exit) ≡ byteWords (now (answer .entry)) (readBy reader (now (state .entry)) (now (s .entry)) (λ b. eqb b value)) ⌝ }
+    ensures number { λ r. ⌜ r ≡ readBy reader (now (state .entry)) (now (s .entry)) (λ b. eqb b value) .outcome .refusal ⌝ }
+    ensures moved { λ _. ⌜ now (state .exit) ≡ stateWords (now (state .entry)) (readBy reader (now (state .entry)) (now (s .entry)) (λ b. eqb b value) .outcome .state) ⌝ }
+    ensures written { λ _. ⌜ now (answer .exit) ≡ readWords (now (answer .entry)) (readBy reader (now (state .entry)) (now (s .entry)) (λ b. eqb b value)) ⌝ }
 {
     let old = answer[1];
     let here = state_in(&*state);
@@ -114,7 +115,20 @@ fn take_here(b: u8, reader: u8, state: &mut [u64; 8], answer: &mut [u64; 4], pas
     0
 }
 
-// Takes the byte, uncounted, where it is in the set of 256 bits, the lowest 64 first. Where it is not, the passing stays.
+// Declines the byte under the cursor: it is told, and nothing is taken.
+fn decline_here(b: u8, state: &mut [u64; 8], answer: &mut [u64; 4]) -> u32
+    ensures number { λ r. ⌜ r ≡ 0 ⌝ }
+    ensures moved { λ _. ⌜ now (state .exit) ≡ stateWords (now (state .entry)) (stateIn (now (state .entry))) ⌝ }
+    ensures written { λ _. ⌜ now (answer .exit) ≡ (2 ∷ b ∷ 0 ∷ 0 ∷ []) ⌝ }
+{
+    let byte = wide(b);
+    *answer = [2, byte, 0, 0];
+    keep(&mut *state);
+    0
+}
+
+// Takes the byte, uncounted, where it is in the set of 256 bits, the lowest 64 first. Where it is not, the byte is told as declined, and
+// the passing stays.
 #[no_mangle]
 pub extern "C" fn pawhetino_read_if(
     s: &[u8],
@@ -123,9 +137,9 @@ pub extern "C" fn pawhetino_read_if(
     answer: &mut [u64; 4],
     set: &[u64; 4],
 ) -> u32
-    ensures number { λ r. ⌜ r ≡ readBy reader (now (state .entry)) (now (s .entry)) (member (setIn (now (set .entry)))) .refusal ⌝ }
-    ensures moved { λ _. ⌜ now (state .exit) ≡ stateWords (now (state .entry)) (readBy reader (now (state .entry)) (now (s .entry)) (member (setIn (now (set .entry)))) .state) ⌝ }
-    ensures written { λ _. ⌜ now (answer .exit) ≡ byteWords (now (answer .entry)) (readBy reader (now (state .entry)) (now (s .entry)) (member (setIn (now (set .entry))))) ⌝ }
+    ensures number { λ r. ⌜ r ≡ readBy reader (now (state .entry)) (now (s .entry)) (member (setIn (now (set .entry)))) .outcome .refusal ⌝ }
+    ensures moved { λ _. ⌜ now (state .exit) ≡ stateWords (now (state .entry)) (readBy reader (now (state .entry)) (now (s .entry)) (member (setIn (now (set .entry)))) .outcome .state) ⌝ }
+    ensures written { λ _. ⌜ now (answer .exit) ≡ readWords (now (answer .entry)) (readBy reader (now (state .entry)) (now (s .entry)) (member (setIn (now (set .entry))))) ⌝ }
 {
     if 2 < reader {
         return read_any(&s[..], reader, &mut *state, &mut *answer, set);
@@ -134,7 +148,7 @@ pub extern "C" fn pawhetino_read_if(
     match here {
         Here::Byte(b) => {
             if !has_byte(set, b) {
-                return answer_none(&mut *state, &mut *answer);
+                return decline_here(b, &mut *state, &mut *answer);
             }
             let past = state[2] + 1;
             take_here(b, reader, &mut *state, &mut *answer, past)
@@ -154,9 +168,9 @@ pub extern "C" fn pawhetino_read_if_value_cased(
     answer: &mut [u64; 4],
     value: u8,
 ) -> u32
-    ensures number { λ r. ⌜ r ≡ readBy reader (now (state .entry)) (now (s .entry)) (λ b. eqb b value) .refusal ⌝ }
-    ensures moved { λ _. ⌜ now (state .exit) ≡ stateWords (now (state .entry)) (readBy reader (now (state .entry)) (now (s .entry)) (λ b. eqb b value) .state) ⌝ }
-    ensures written { λ _. ⌜ now (answer .exit) ≡ byteWords (now (answer .entry)) (readBy reader (now (state .entry)) (now (s .entry)) (λ b. eqb b value)) ⌝ }
+    ensures number { λ r. ⌜ r ≡ readBy reader (now (state .entry)) (now (s .entry)) (λ b. eqb b value) .outcome .refusal ⌝ }
+    ensures moved { λ _. ⌜ now (state .exit) ≡ stateWords (now (state .entry)) (readBy reader (now (state .entry)) (now (s .entry)) (λ b. eqb b value) .outcome .state) ⌝ }
+    ensures written { λ _. ⌜ now (answer .exit) ≡ readWords (now (answer .entry)) (readBy reader (now (state .entry)) (now (s .entry)) (λ b. eqb b value)) ⌝ }
 {
     if 2 < reader {
         return read_value_any(&s[..], reader, &mut *state, &mut *answer, value);
@@ -165,7 +179,7 @@ pub extern "C" fn pawhetino_read_if_value_cased(
     match here {
         Here::Byte(b) => {
             if b != value {
-                return answer_none(&mut *state, &mut *answer);
+                return decline_here(b, &mut *state, &mut *answer);
             }
             let past = state[2] + 1;
             take_here(b, reader, &mut *state, &mut *answer, past)

@@ -1,9 +1,9 @@
 // What a reader answered, on the way to a caller's words: the number returned, the state, and an answer of four words, which are
-// whether something was found, what it is, how many bytes were taken and how many separators passed.
+// whether something was found (of a read how it ended), what it is, how many bytes were taken and how many separators passed.
 ghost use mathlib.Core.Path.{_≡_};
 ghost use Rattle.reader.specs.Answer.{outcomeOf, readOutcomeOf};
 ghost use Rattle.export.specs.State.{stateWords};
-ghost use Rattle.export.specs.Code.Reply.{byteReply, refusedReply, replyWords};
+ghost use Rattle.export.specs.Code.Reply.{byteReply, readReply, refusedReply, replyWords};
 use crate::state::put_state;
 use reader::iterator::Read;
 use reader::iterator::ReadAnswer;
@@ -77,9 +77,9 @@ pub(crate) fn of_answer(answer: Answer, old: u64) -> Reply
     }
 }
 
-// The same of a conditional read.
+// An answer of a conditional read: 1 with the byte taken, 2 with the byte declined, 0 at the end, where the second word stays.
 pub(crate) fn of_read(answer: ReadAnswer, old: u64) -> Reply
-    ensures { λ r. ⌜ r ≡ byteReply old (readOutcomeOf answer) ⌝ }
+    ensures { λ r. ⌜ r ≡ readReply old (readOutcomeOf answer) ⌝ }
 {
     let report = answer.report;
     let read = report.read;
@@ -95,7 +95,15 @@ pub(crate) fn of_read(answer: ReadAnswer, old: u64) -> Reply
             taken,
             passed,
         },
-        Read::Declined => Reply {
+        Read::Declined(b) => Reply {
+            number: 0,
+            state,
+            found: 2,
+            value: wide(b),
+            taken,
+            passed,
+        },
+        Read::End => Reply {
             number: 0,
             state,
             found: 0,

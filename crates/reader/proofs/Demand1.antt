@@ -19,13 +19,13 @@ use Rattle.reader.specs.declared.state.State.{State}
 use Rattle.reader.specs.Reading.{Reading, hasAnyFlag, isConsecutiveAlone}
 use Rattle.reader.specs.State.{Sheet, sheetOf, countSum, freshOf, isCounted}
 use Rattle.reader.specs.Answer.{Outcome}
-use Rattle.reader.specs.Calls.{consecutiveNumber, line16, line17, line18, lineConsecutive, placeRefusal, refusalWith, refusalOf, refused, peeked, peekOf, takeByte, nextOf, readByteIf, readIfOf, nextAllOf, currentCountOf}
+use Rattle.reader.specs.Calls.{consecutiveNumber, line16, line17, line18, lineConsecutive, placeRefusal, refusalWith, refusalOf, refused, peeked, peekOf, takeByte, nextOf, readByteIf, readIfOf, refusedRead, nextAllOf, currentCountOf}
 use Rattle.reader.specs.Repeat.{untilNone, repeated}
 use Rattle.reader.specs.ZeroSkip.{skipRefusal, refusedSkip}
 use Rattle.reader.specs.Block.{blockRefusal, refusedBlock, takeNOf, takeNPart}
 use Rattle.reader.specs.Plain.{PlainOutcome, plainPeekOf, plainTakeByte, plainNextOf}
 use Rattle.reader.specs.Column.{columnOf}
-use Rattle.reader.specs.History.{Call, peekBy, takeBy, readIfBy, zeroSkipBy, blockBy, Answered, peekAnswered, takeAnswered, readAnswered, skipAnswered, blockAnswered, answerBy, answerTo, numberIn, takenIn, passedIn, returned, shownIn, partIn}
+use Rattle.reader.specs.History.{Call, peekBy, takeBy, readIfBy, zeroSkipBy, blockBy, Answered, peekAnswered, takeAnswered, readAnswered, skipAnswered, blockAnswered, answerBy, answerTo, numberIn, takenIn, passedIn, returned, shownIn, seenIn, partIn}
 use Rattle.reader.specs.RefusalKeeps.{PlaceFault, SpecialFault, OwnFault, Fault, ResultOrRefusal, CountRefusalKeeps, PlainRefusalKeeps, ColumnRefusalKeeps}
 use Rattle.reader.proofs.state.Refusals.{turned-away}
 use Rattle.reader.proofs.iterator.ConditionalReads.{read-cases}
@@ -123,15 +123,8 @@ module _ (m : Reading) (s : List ℕ) (st : State) (r : Reader) where
     go (inl e) = inl (success (peekOf m s st r .byte) e)
     go (inr away) = inr (ap (λ (o : Outcome). takeByte m r o (o .byte)) away)
 
-  read-turned : (wanted : ℕ → Bool) → Turned (readIfOf m s st r wanted)
-  unfolding readIfOf
-  read-turned wanted = go peek-turned where
-    success : peekOf m s st r .refusal ≡ 0 → readIfOf m s st r wanted .refusal ≡ 0
-    success e = read-cases m s st r wanted (λ o. o .refusal ≡ 0) (λ b h. refl) refl (λ h. e)
-
-    go : Turned (peekOf m s st r) → Turned (readByteIf wanted (peekOf m s st r) (peekOf m s st r .byte))
-    go (inl e) = inl (success e)
-    go (inr away) = inr (ap (λ (o : Outcome). readByteIf wanted o (o .byte)) away)
+  read-succeeds : (wanted : ℕ → Bool) → peekOf m s st r .refusal ≡ 0 → readIfOf m s st r wanted .refusal ≡ 0
+  read-succeeds wanted e = read-cases m s st r wanted (λ o. o .refusal ≡ 0) (λ b h. refl) refl (λ h. e)
 
   -- what holds of a result and of the refusal holds of the answer
   either : (P : Outcome → Type 0) (o : Outcome) → Turned o → (o .refusal ≡ 0 → P o) → P (refused own st) → P o
@@ -141,15 +134,24 @@ module _ (m : Reading) (s : List ℕ) (st : State) (r : Reader) where
 -- THE FIVE CALLS
 module _ (m : Reader → Reading) (s : List ℕ) (st : State) where
   -- an answer that takes, passes, moves and shows nothing, by a number that is 0 or told of its fault
-  keeps : (call : Call) (a : Answered) → takenIn a ≡ 0 → passedIn a ≡ 0 → returned a ≡ st → shownIn a ≡ none → partIn a ≡ []
+  keeps : (call : Call) (a : Answered) → takenIn a ≡ 0 → passedIn a ≡ 0 → returned a ≡ st → shownIn a ≡ none → seenIn a ≡ none → partIn a ≡ []
       → Judged (Fault m s st call) (numberIn a) → ResultOrRefusal m s st call a
-  keeps call a taken passed state shown part =
-      or-else (λ fault. record { number = fault; taken = taken; passed = passed; state = state; shown = shown; part = part })
+  keeps call a taken passed state shown seen part =
+      or-else (λ fault. record { number = fault; taken = taken; passed = passed; state = state; shown = shown; seen = seen; part = part })
+
+  -- a read is what it makes of its peek's answer, which sees nothing where it is refused
+  read-keeps : (r : Reader) (wanted : ℕ → Bool) → ResultOrRefusal m s st (readIfBy r wanted) (answerBy m s st (readIfBy r wanted))
+  unfolding readIfOf
+  read-keeps r wanted =
+      either (m r) s st r
+      (λ o. ResultOrRefusal m s st (readIfBy r wanted) (readAnswered r (record { outcome = readByteIf wanted o (o .byte); seen = o .byte })))
+      (peekOf (m r) s st r) (peek-turned (m r) s st r) (λ e. inl (read-succeeds (m r) s st r wanted e))
+      (keeps (readIfBy r wanted) (readAnswered r (refusedRead (refusalOf (m r) s st r) st)) refl refl refl refl refl refl (reader-number (m r .flags) s st r))
 
   skip-keeps : (r : Reader) → ResultOrRefusal m s st (zeroSkipBy r) (answerBy m s st (zeroSkipBy r))
   skip-keeps r =
       skip-cases (m r) s st r (λ o reads. ResultOrRefusal m s st (zeroSkipBy r) (skipAnswered r o reads)) (λ clear. inl refl)
-      (λ away. keeps (zeroSkipBy r) (skipAnswered r (refusedSkip (skipRefusal (m r .flags) s st r) st) []) refl refl refl refl refl (skip-number (m r .flags) s st r))
+      (λ away. keeps (zeroSkipBy r) (skipAnswered r (refusedSkip (skipRefusal (m r .flags) s st r) st) []) refl refl refl refl refl refl (skip-number (m r .flags) s st r))
 
   block-keeps : (r : Reader) (n : ℕ) → ResultOrRefusal m s st (blockBy r n) (answerBy m s st (blockBy r n))
   unfolding takeNOf takeNPart
@@ -160,19 +162,16 @@ module _ (m : Reader → Reading) (s : List ℕ) (st : State) where
     go true true t a = inl (rw (t, a))
     go true false t a = inl (rw (t, a))
     go false a t e =
-        rw t (keeps (blockBy r n) (blockAnswered r (refusedBlock (blockRefusal s st r) st) []) refl refl refl refl refl (block-number (m r .flags) s st r))
+        rw t (keeps (blockBy r n) (blockAnswered r (refusedBlock (blockRefusal s st r) st) []) refl refl refl refl refl refl (block-number (m r .flags) s st r))
 
   pub result-or-refusal : (call : Call) → ResultOrRefusal m s st call (answerBy m s st call)
   result-or-refusal (peekBy r) =
       either (m r) s st r (λ o. ResultOrRefusal m s st (peekBy r) (peekAnswered r o)) (peekOf (m r) s st r) (peek-turned (m r) s st r) inl
-      (keeps (peekBy r) (peekAnswered r (refused (refusalOf (m r) s st r) st)) refl refl refl refl refl (reader-number (m r .flags) s st r))
+      (keeps (peekBy r) (peekAnswered r (refused (refusalOf (m r) s st r) st)) refl refl refl refl refl refl (reader-number (m r .flags) s st r))
   result-or-refusal (takeBy r) =
       either (m r) s st r (λ o. ResultOrRefusal m s st (takeBy r) (takeAnswered r o)) (nextOf (m r) s st r) (take-turned (m r) s st r) inl
-      (keeps (takeBy r) (takeAnswered r (refused (refusalOf (m r) s st r) st)) refl refl refl refl refl (reader-number (m r .flags) s st r))
-  result-or-refusal (readIfBy r wanted) =
-      either (m r) s st r (λ o. ResultOrRefusal m s st (readIfBy r wanted) (readAnswered r o)) (readIfOf (m r) s st r wanted)
-      (read-turned (m r) s st r wanted) inl
-      (keeps (readIfBy r wanted) (readAnswered r (refused (refusalOf (m r) s st r) st)) refl refl refl refl refl (reader-number (m r .flags) s st r))
+      (keeps (takeBy r) (takeAnswered r (refused (refusalOf (m r) s st r) st)) refl refl refl refl refl refl (reader-number (m r .flags) s st r))
+  result-or-refusal (readIfBy r wanted) = read-keeps r wanted
   result-or-refusal (zeroSkipBy r) = skip-keeps r
   result-or-refusal (blockBy r n) = block-keeps r n
 
@@ -214,7 +213,7 @@ module _ (m : Reader → Reading) (s : List ℕ) (r : Reader) where
     go true t = inl (all-clear (length s) st (eqb-true (refusalOf (m r) s st r) 0 t))
     go false t =
         rw (refuses st t)
-        (keeps m s st (takeBy r) (takeAnswered r (refused (refusalOf (m r) s st r) st)) refl refl refl refl refl (reader-number (m r .flags) s st r))
+        (keeps m s st (takeBy r) (takeAnswered r (refused (refusalOf (m r) s st r) st)) refl refl refl refl refl refl (reader-number (m r .flags) s st r))
 
 module _ (m : Reading) (s : List ℕ) (st : State) (r : Reader) where
   pub current-count-refusal : (currentCountOf m s st r .refusal ≡ 0) ⊎ CountRefusalKeeps s st (currentCountOf m s st r)

@@ -34,7 +34,7 @@ use Rattle.reader.specs.Plain.{PlainOutcome, plainNumber, plainByte, pla
 use Rattle.reader.specs.Column.{ColumnOutcome, columnOutcomeOf}
 use Rattle.reader.specs.Open.{OpenOutcome, openOutcomeOf}
 use Rattle.reader.specs.Answer.{CountOutcome, countOutcomeOf}
-use Rattle.reader.specs.Answer.{numberOf, Outcome, seenNumber, seenByte, outcomeOf, peekOutcomeOf, readNumber, readByte, readOutcomeOf, SkipOutcome, skipNumber, skipZeros, skipOutcomeOf, BlockOutcome, blockNumber, blockBytes, blockOutcomeOf}
+use Rattle.reader.specs.Answer.{numberOf, Outcome, seenNumber, seenByte, outcomeOf, peekOutcomeOf, readNumber, readByte, readSeen, ReadOutcome, readOutcomeOf, SkipOutcome, skipNumber, skipZeros, skipOutcomeOf, BlockOutcome, blockNumber, blockBytes, blockOutcomeOf}
 use Rattle.reader.proofs.state.Refusals.{refusal-tells}
 
 -- the refusal with a number; the last one stands for all other numbers
@@ -89,18 +89,21 @@ peek-tells =
     (λ a. ap (λ (x : Seen). record { report = record { seen = x; taken = a .report .taken; passed = a .report .passed }; state = a .state }) (seen-back (a .report .seen)))
 
 -- a conditional read's
-abbrev readFrom : ℕ → Option ℕ → Read
-readFrom = caseFrom read.Taken read.Declined read.Refused
+abbrev pub readFrom : ℕ → (byte seen : Option ℕ) → Read
+readFrom n (some b) seen = read.Taken b
+readFrom n none (some b) = read.Declined b
+readFrom n none none = caseFrom read.Taken read.End read.Refused n none
 
-read-back : (x : Read) → readFrom (readNumber x) (readByte x) ≡ x
+pub read-back : (x : Read) → readFrom (readNumber x) (readByte x) (readSeen x) ≡ x
 read-back (read.Taken b) = refl
-read-back read.Declined = refl
-read-back (read.Refused e) = refused-back read.Taken read.Declined read.Refused e
+read-back (read.Declined b) = refl
+read-back read.End = refl
+read-back (read.Refused e) = refused-back read.Taken read.End read.Refused e
 
 pub read-outcome-tells : (a b : ReadAnswer) → readOutcomeOf a ≡ readOutcomeOf b → a ≡ b
 read-outcome-tells =
     tells readOutcomeOf
-    (λ (o : Outcome). record { report = record { read = readFrom (o .refusal) (o .byte); taken = o .taken; passed = o .passed }; state = o .state })
+    (λ (o : ReadOutcome). record { report = record { read = readFrom (o .outcome .refusal) (o .outcome .byte) (o .seen); taken = o .outcome .taken; passed = o .outcome .passed }; state = o .outcome .state })
     (λ a. ap (λ (x : Read). record { report = record { read = x; taken = a .report .taken; passed = a .report .passed }; state = a .state }) (read-back (a .report .read)))
 
 -- a zero skip's: it has no third case

@@ -64,20 +64,37 @@ abbrev pub peekOutcomeOf : Peeked → Outcome
 peekOutcomeOf a =
     record { refusal = seenNumber (a .report .seen); byte = seenByte (a .report .seen); taken = a .report .taken; passed = a .report .passed; state = a .state }
 
--- a conditional read's answer: the byte taken, declined, or a refusal
+-- a conditional read's answer: the byte taken, declined with the byte seen, the end, or a refusal
 abbrev pub readNumber : Read → ℕ
 readNumber (read.Taken b) = 0
-readNumber read.Declined = 0
+readNumber (read.Declined b) = 0
+readNumber read.End = 0
 readNumber (read.Refused e) = numberOf e
 
 abbrev pub readByte : Read → Option ℕ
 readByte (read.Taken b) = some b
-readByte read.Declined = none
+readByte (read.Declined b) = none
+readByte read.End = none
 readByte (read.Refused e) = none
 
-abbrev pub readOutcomeOf : ReadAnswer → Outcome
+abbrev pub readSeen : Read → Option ℕ
+readSeen (read.Taken b) = some b
+readSeen (read.Declined b) = some b
+readSeen read.End = none
+readSeen (read.Refused e) = none
+
+-- A conditional read's outcome has beside the byte taken the byte seen. It is taken where there is a byte taken, declined where there is
+-- only a byte seen, and the end where there is none.
+pub record ReadOutcome : Type 0 where
+  pub outcome : Outcome
+  pub seen : Option ℕ
+
+abbrev pub readOutcomeOf : ReadAnswer → ReadOutcome
 readOutcomeOf a =
-    record { refusal = readNumber (a .report .read); byte = readByte (a .report .read); taken = a .report .taken; passed = a .report .passed; state = a .state }
+    record {
+      outcome = record { refusal = readNumber (a .report .read); byte = readByte (a .report .read); taken = a .report .taken; passed = a .report .passed; state = a .state };
+      seen = readSeen (a .report .read);
+    }
 
 -- what `current_count` answers: the count shown, or a refusal
 pub record CountOutcome : Type 0 where

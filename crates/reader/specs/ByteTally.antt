@@ -11,7 +11,7 @@ use Rattle.reader.specs.declared.state.State.{State}
 use Rattle.reader.specs.Reading.{Reading, mayPass}
 use Rattle.reader.specs.State.{Sheet, sheetOf, freshOn, countOf}
 use Rattle.reader.specs.Answer.{Outcome, SkipOutcome}
-use Rattle.reader.specs.History.{Call, peekBy, takeBy, readIfBy, zeroSkipBy, blockBy, Answered, peekAnswered, takeAnswered, readAnswered, skipAnswered, blockAnswered, answerTo, numberIn, takenIn, passedIn, returned, shownIn, Trace, traceFrom, traceOf, totalOf, Step, byteTaken, stepsOf, joined, historyCount, stepCount}
+use Rattle.reader.specs.History.{Call, peekBy, takeBy, readIfBy, zeroSkipBy, blockBy, Answered, peekAnswered, takeAnswered, readAnswered, skipAnswered, blockAnswered, answerTo, numberIn, takenIn, passedIn, returned, shownIn, seenIn, Trace, traceFrom, traceOf, totalOf, Step, byteTaken, stepsOf, joined, historyCount, stepCount}
 
 -- A run of separators that a step passed is separators only. It began at the place whose number is how many bytes were joined
 -- before it: there the buffer has a separator and the reader's rule holds, first if its count of the history is 0 up to there,
@@ -96,9 +96,11 @@ abbrev pub peekBefore : (Sheet → Reader → Reading) → List ℕ → State �
 peekBefore m s st call = answerTo m s st (peekBy (readerOf call))
 
 -- What the call answers from the state that the peek returned, beside what it answers without the peek: the same byte or number of
--- zeros, and the same state, so that the rest of the list goes on the same. The two passed counts add up to the one without.
+-- zeros, of a read also the same byte seen, and the same state, so that the rest of the list goes on the same. The two passed counts add
+-- up to the one without.
 pub record PeekChangesNothing (m : Sheet → Reader → Reading) (s : List ℕ) (st : State) (call : Call) : Type 0 where
   pub shown : shownIn (answerTo m s (returned (peekBefore m s st call)) call) ≡ shownIn (answerTo m s st call)
+  pub seen : seenIn (answerTo m s (returned (peekBefore m s st call)) call) ≡ seenIn (answerTo m s st call)
   pub state : returned (answerTo m s (returned (peekBefore m s st call)) call) ≡ returned (answerTo m s st call)
   pub rest :
       (calls : List Call) →

@@ -12,8 +12,8 @@ use Rattle.reader.specs.declared.state.State.{State}
 use Rattle.reader.specs.declared.bytes.Bytes.{Bytes}
 use Rattle.reader.specs.State.{freshOf}
 use Rattle.reader.specs.Reading.{readingOf, readingFor}
-use Rattle.reader.specs.Answer.{Outcome, SkipOutcome, BlockOutcome, CountOutcome}
-use Rattle.reader.specs.Calls.{peekOf, nextOf, nextAllOf, readIfOf, currentCountOf}
+use Rattle.reader.specs.Answer.{Outcome, ReadOutcome, SkipOutcome, BlockOutcome, CountOutcome}
+use Rattle.reader.specs.Calls.{peekOf, nextOf, nextAllOf, readOf, currentCountOf}
 use Rattle.reader.specs.ZeroSkip.{skipZerosOf}
 use Rattle.reader.specs.Part.{PartOf}
 use Rattle.reader.specs.Block.{takeNOf}
@@ -45,8 +45,8 @@ countBytes b r = currentCountOf (readingFor (b .state) r) (now (b .slc)) (b .sta
 abbrev pub skipBytes : Bytes → Reader → SkipOutcome
 skipBytes b r = skipZerosOf (readingFor (b .state) r) (now (b .slc)) (b .state) r
 
-abbrev pub readBytes : Bytes → Reader → ByteSet → Outcome
-readBytes b r wanted = readIfOf (readingFor (b .state) r) (now (b .slc)) (b .state) r (member wanted)
+abbrev pub readBytes : Bytes → Reader → ByteSet → ReadOutcome
+readBytes b r wanted = readOf (readingFor (b .state) r) (now (b .slc)) (b .state) r (member wanted)
 
 abbrev pub takeNBytes : Bytes → Reader → ℕ → BlockOutcome
 takeNBytes b r n = takeNOf (readingFor (b .state) r) (now (b .slc)) (b .state) r n

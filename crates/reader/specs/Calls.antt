@@ -13,7 +13,7 @@ use Rattle.reader.specs.declared.state.State.{State}
 use Rattle.reader.specs.Place.{byteAt}
 use Rattle.reader.specs.Reading.{Reading, hasAnyFlag, isConsecutiveAlone, passedAt}
 use Rattle.reader.specs.State.{countOf, countSum, movedTo, countedBy, isCounted}
-use Rattle.reader.specs.Answer.{Outcome, CountOutcome}
+use Rattle.reader.specs.Answer.{Outcome, ReadOutcome, CountOutcome}
 use Rattle.reader.specs.Repeat.{repeated}
 
 -- the number of "consecutive alone" for each counted reader; the special reader has none
@@ -88,6 +88,14 @@ readByteIf wanted seen (some b) = cond (wanted b) (readTaken seen b) (readDeclin
 
 unfoldable pub readIfOf : Reading → List ℕ → State → Reader → (ℕ → Bool) → Outcome
 readIfOf m s st r wanted = readByteIf wanted (peekOf m s st r) (peekOf m s st r .byte)
+
+-- "Let the read answer three ways: taken, declined with the byte seen, or end exactly where its peek answers end" (document 02): what it
+-- did, and what its peek saw.
+abbrev pub readOf : Reading → List ℕ → State → Reader → (ℕ → Bool) → ReadOutcome
+readOf m s st r wanted = record { outcome = readIfOf m s st r wanted; seen = peekOf m s st r .byte }
+
+abbrev pub refusedRead : ℕ → State → ReadOutcome
+refusedRead number st = record { outcome = refused number st; seen = none }
 
 -- Take to the end: takes until one answers no byte. There are at most as many takes with a byte as there are bytes.
 unfoldable pub nextAllOf : Reading → List ℕ → State → Reader → Outcome

@@ -11,8 +11,8 @@ use Rattle.reader.specs.declared.state.Reader.{Reader}
 use Rattle.reader.specs.declared.state.State.{State}
 use Rattle.reader.specs.Reading.{Reading, hasAnyFlag}
 use Rattle.reader.specs.State.{Sheet, sheetOf, isCounted, readerNumber}
-use Rattle.reader.specs.Answer.{Outcome, SkipOutcome, BlockOutcome}
-use Rattle.reader.specs.Calls.{peekOf, nextOf, readIfOf}
+use Rattle.reader.specs.Answer.{Outcome, ReadOutcome, SkipOutcome, BlockOutcome}
+use Rattle.reader.specs.Calls.{peekOf, nextOf, readOf}
 use Rattle.reader.specs.ZeroSkip.{zeroReadsOf, skipZerosOf}
 use Rattle.reader.specs.Block.{takeNOf, takeNPart}
 
@@ -28,7 +28,7 @@ pub data Call : Type 0 where
 pub data Answered : Type 0 where
   peekAnswered : Reader → Outcome → Answered
   takeAnswered : Reader → Outcome → Answered
-  readAnswered : Reader → Outcome → Answered
+  readAnswered : Reader → ReadOutcome → Answered
   skipAnswered : Reader → SkipOutcome → List Outcome → Answered
   blockAnswered : Reader → BlockOutcome → List ℕ → Answered
 
@@ -40,7 +40,7 @@ readsMade m s st r = cond (eqb (skipZerosOf m s st r .refusal) 0) (zeroReadsOf m
 abbrev pub answerBy : (Reader → Reading) → List ℕ → State → Call → Answered
 answerBy m s st (peekBy r) = peekAnswered r (peekOf (m r) s st r)
 answerBy m s st (takeBy r) = takeAnswered r (nextOf (m r) s st r)
-answerBy m s st (readIfBy r wanted) = readAnswered r (readIfOf (m r) s st r wanted)
+answerBy m s st (readIfBy r wanted) = readAnswered r (readOf (m r) s st r wanted)
 answerBy m s st (zeroSkipBy r) = skipAnswered r (skipZerosOf (m r) s st r) (readsMade (m r) s st r)
 answerBy m s st (blockBy r n) = blockAnswered r (takeNOf (m r) s st r n) (takeNPart (m r) s st r n)
 
@@ -52,38 +52,46 @@ answerTo m s st call = answerBy (m (sheetOf st)) s st call
 abbrev pub numberIn : Answered → ℕ
 numberIn (peekAnswered r o) = o .refusal
 numberIn (takeAnswered r o) = o .refusal
-numberIn (readAnswered r o) = o .refusal
+numberIn (readAnswered r o) = o .outcome .refusal
 numberIn (skipAnswered r o reads) = o .refusal
 numberIn (blockAnswered r o part) = o .refusal
 
 abbrev pub takenIn : Answered → ℕ
 takenIn (peekAnswered r o) = o .taken
 takenIn (takeAnswered r o) = o .taken
-takenIn (readAnswered r o) = o .taken
+takenIn (readAnswered r o) = o .outcome .taken
 takenIn (skipAnswered r o reads) = o .taken
 takenIn (blockAnswered r o part) = o .taken
 
 abbrev pub passedIn : Answered → ℕ
 passedIn (peekAnswered r o) = o .passed
 passedIn (takeAnswered r o) = o .passed
-passedIn (readAnswered r o) = o .passed
+passedIn (readAnswered r o) = o .outcome .passed
 passedIn (skipAnswered r o reads) = o .passed
 passedIn (blockAnswered r o part) = o .passed
 
 abbrev pub returned : Answered → State
 returned (peekAnswered r o) = o .state
 returned (takeAnswered r o) = o .state
-returned (readAnswered r o) = o .state
+returned (readAnswered r o) = o .outcome .state
 returned (skipAnswered r o reads) = o .state
 returned (blockAnswered r o part) = o .state
 
--- what it shows beside them: the byte of a peek, take or read, the zeros of a zero skip, the size of a block
+-- what it shows beside them: the byte of a peek or take, the byte that a read took, the zeros of a zero skip, the size of a block
 abbrev pub shownIn : Answered → Option ℕ
 shownIn (peekAnswered r o) = o .byte
 shownIn (takeAnswered r o) = o .byte
-shownIn (readAnswered r o) = o .byte
+shownIn (readAnswered r o) = o .outcome .byte
 shownIn (skipAnswered r o reads) = o .zeros
 shownIn (blockAnswered r o part) = o .block
+
+-- the byte that a read saw, also where it is declined; no other call tells one beside what it shows
+abbrev pub seenIn : Answered → Option ℕ
+seenIn (peekAnswered r o) = none
+seenIn (takeAnswered r o) = none
+seenIn (readAnswered r o) = o .seen
+seenIn (skipAnswered r o reads) = none
+seenIn (blockAnswered r o part) = none
 
 -- the part that a block take returns; the others return none
 abbrev pub partIn : Answered → List ℕ
@@ -141,7 +149,7 @@ zeroSteps r (o ∷ reads) earlier = zeroSteps r reads (stepOf r aZeroRead o ∷ 
 abbrev pub withSteps : Answered → List Step → List Step
 withSteps (peekAnswered r o) earlier = record { reader = r; kind = aPeek; passed = o .passed; bytes = [] } ∷ earlier
 withSteps (takeAnswered r o) earlier = stepOf r aTake o ∷ earlier
-withSteps (readAnswered r o) earlier = stepOf r aRead o ∷ earlier
+withSteps (readAnswered r o) earlier = stepOf r aRead (o .outcome) ∷ earlier
 withSteps (skipAnswered r o reads) earlier = zeroSteps r reads earlier
 withSteps (blockAnswered r o part) earlier = record { reader = r; kind = aBlock; passed = o .passed; bytes = part } ∷ earlier
 

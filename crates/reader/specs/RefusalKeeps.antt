@@ -16,7 +16,7 @@ use Rattle.reader.specs.State.{countSum, isCounted}
 use Rattle.reader.specs.Answer.{CountOutcome}
 use Rattle.reader.specs.Plain.{PlainOutcome}
 use Rattle.reader.specs.Column.{ColumnOutcome, noTotals}
-use Rattle.reader.specs.History.{Call, peekBy, takeBy, readIfBy, zeroSkipBy, blockBy, Answered, numberIn, takenIn, passedIn, returned, shownIn, partIn}
+use Rattle.reader.specs.History.{Call, peekBy, takeBy, readIfBy, zeroSkipBy, blockBy, Answered, numberIn, takenIn, passedIn, returned, shownIn, seenIn, partIn}
 
 -- WHAT A NUMBER STANDS FOR ("What the office log shows"): each is told of its own fault only.
 
@@ -52,6 +52,7 @@ pub record RefusalKeeps (m : Reader → Reading) (s : List ℕ) (given : State) 
   pub passed : passedIn a ≡ 0
   pub state : returned a ≡ given
   pub shown : shownIn a ≡ none
+  pub seen : seenIn a ≡ none
   pub part : partIn a ≡ []
 
 abbrev pub ResultOrRefusal : (Reader → Reading) → List ℕ → State → Call → Answered → Type 0

@@ -7,7 +7,7 @@ ghost use lib.ListN.{length, getD};
 ghost use Rattle.word.specs.ByteSet.{member};
 ghost use Rattle.reader.specs.Reading.{syntaxFor, readingWith, readingFor, passedAt};
 ghost use Rattle.reader.specs.Answer.{admissionNumber, readOutcomeOf, skipOutcomeOf};
-ghost use Rattle.reader.specs.Calls.{readIfOf};
+ghost use Rattle.reader.specs.Calls.{readOf};
 ghost use Rattle.reader.specs.ZeroSkip.{isZero, skipRefusal, skipZerosOf};
 use crate::passing::Syntax;
 use crate::passing::landing;
@@ -24,10 +24,11 @@ use crate::state::moved;
 use crate::state::with_count;
 use word::byte_set::ByteSet;
 
-// What a conditional read did.
+// What a conditional read did: it took a byte, it declined the byte that it saw, or there was none.
 pub enum Read {
     Taken(u8),
-    Declined,
+    Declined(u8),
+    End,
     Refused(Refusal),
 }
 
@@ -73,7 +74,7 @@ fn read_answered(read: Read, taken: usize, passed: usize, state: State) -> ReadA
 
 // A conditional read given the reader's syntax.
 fn read_in(s: &[u8], state: State, syntax: Syntax, reader: Reader, wanted: ByteSet) -> ReadAnswer
-    ensures { λ r. ⌜ readOutcomeOf r ≡ readIfOf (readingWith syntax) (now (s .entry)) state reader (member wanted) ⌝ }
+    ensures { λ r. ⌜ readOutcomeOf r ≡ readOf (readingWith syntax) (now (s .entry)) state reader (member wanted) ⌝ }
 {
     let looked = look(s, state, syntax, reader);
     match looked {
@@ -81,16 +82,16 @@ fn read_in(s: &[u8], state: State, syntax: Syntax, reader: Reader, wanted: ByteS
             if wanted.contains(b) {
                 return read_answered(Read::Taken(b), 1, passed, moved(state, place + 1));
             }
-            read_answered(Read::Declined, 0, passed, moved(state, place))
+            read_answered(Read::Declined(b), 0, passed, moved(state, place))
         }
-        Looked::End(place, passed) => read_answered(Read::Declined, 0, passed, moved(state, place)),
+        Looked::End(place, passed) => read_answered(Read::End, 0, passed, moved(state, place)),
         Looked::Refused(refusal) => read_answered(Read::Refused(refusal), 0, 0, state),
     }
 }
 
 // Takes the byte under the cursor, uncounted, where it is in the set. Where it is not, the passing stays all the same.
 pub fn read_if(s: &[u8], state: State, reader: Reader, wanted: ByteSet) -> ReadAnswer
-    ensures { λ r. ⌜ readOutcomeOf r ≡ readIfOf (readingFor state reader) (now (s .entry)) state reader (member wanted) ⌝ }
+    ensures { λ r. ⌜ readOutcomeOf r ≡ readOf (readingFor state reader) (now (s .entry)) state reader (member wanted) ⌝ }
 {
     let syntax = syntax_for(state, reader);
     read_in(s, state, syntax, reader, wanted)
@@ -98,7 +99,7 @@ pub fn read_if(s: &[u8], state: State, reader: Reader, wanted: ByteSet) -> ReadA
 
 // The same for one byte.
 pub fn read_if_value_cased(s: &[u8], state: State, reader: Reader, value: u8) -> ReadAnswer
-    ensures { λ r. ⌜ readOutcomeOf r ≡ readIfOf (readingFor state reader) (now (s .entry)) state reader (λ b. eqb b value) ⌝ }
+    ensures { λ r. ⌜ readOutcomeOf r ≡ readOf (readingFor state reader) (now (s .entry)) state reader (λ b. eqb b value) ⌝ }
 {
     let wanted = ByteSet::from_byte(value);
     read_if(s, state, reader, wanted)

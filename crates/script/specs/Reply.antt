@@ -25,7 +25,7 @@ callBy call.ZeroSkip r = history.zeroSkipBy r
 callBy (call.Block n) r = history.blockBy r n
 
 -- "The byte is decimal; it is `-` at the end, for a declined read and for a block, and the number of zeros for kind 5. A block
--- answering none prints `6 none`."
+-- answering none prints `6 none`." Document 02 keeps it so of a read: "The script still prints `-` for both."
 abbrev pub numberShown : Option ℕ → Shown
 numberShown none = shown.Dash
 numberShown (some n) = shown.Number n
@@ -53,7 +53,7 @@ blockReply o =
 unfoldable pub replyOf : Answered → Reply
 replyOf (peekAnswered r o) = outcomeReply o
 replyOf (takeAnswered r o) = outcomeReply o
-replyOf (readAnswered r o) = outcomeReply o
+replyOf (readAnswered r o) = outcomeReply (o .outcome)
 replyOf (skipAnswered r o reads) = skipReply o
 replyOf (blockAnswered r o part) = blockReply o
 

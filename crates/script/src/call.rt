@@ -54,7 +54,8 @@ fn read_shown(read: Read) -> Shown
 {
     match read {
         Read::Taken(b) => Shown::Number(b as usize),
-        Read::Declined => Shown::Dash,
+        Read::Declined(_) => Shown::Dash,
+        Read::End => Shown::Dash,
         Read::Refused(refusal) => Shown::Refused(refusal.number()),
     }
 }
@@ -98,7 +99,7 @@ fn seen_reply(a: Answer) -> Reply
 }
 
 fn read_reply(a: ReadAnswer) -> Reply
-    ensures { λ r. ⌜ r ≡ outcomeReply (readOutcomeOf a) ⌝ }
+    ensures { λ r. ⌜ r ≡ outcomeReply (readOutcomeOf a .outcome) ⌝ }
 {
     let report = a.report;
     let read = report.read;

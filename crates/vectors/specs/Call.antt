@@ -9,9 +9,9 @@ use Rattle.word.specs.declared.format_flags.Format.{Format}
 use Rattle.reader.specs.declared.state.Reader.{Reader}
 use Rattle.reader.specs.declared.state.State.{State}
 use Rattle.reader.specs.State.{readerNamed}
-use Rattle.reader.specs.Answer.{Outcome, SkipOutcome, BlockOutcome}
+use Rattle.reader.specs.Answer.{Outcome, ReadOutcome, SkipOutcome, BlockOutcome}
 use Rattle.reader.specs.Reading.{syntaxFor, readingFor}
-use Rattle.reader.specs.Calls.{peekOf, nextOf, readIfOf, nextAllOf}
+use Rattle.reader.specs.Calls.{peekOf, nextOf, readOf, nextAllOf}
 use Rattle.reader.specs.ZeroSkip.{skipZerosOf}
 use Rattle.reader.specs.Block.{takeNOf, takeNPart}
 use Rattle.cells.specs.DigitRun.{RunOutcome, digitRunOf}
@@ -24,6 +24,12 @@ use Rattle.vectors.specs.Packed.{byteOf, withByte, lowByteBehind, allBeh
 abbrev pub valueOrNone : Option ℕ → ℕ
 valueOrNone none = 0
 valueOrNone (some n) = lowByteBehind 1 n
+
+-- of a read: 1 and the byte taken, 3 and the byte seen where it is declined, 0 and 0 at the end
+abbrev pub readOrNone : (byte seen : Option ℕ) → ℕ
+readOrNone (some b) seen = lowByteBehind 1 b
+readOrNone none (some b) = lowByteBehind 3 b
+readOrNone none none = 0
 
 -- of a block: 1 and 0, whatever its size
 abbrev pub blockOrNone : Option ℕ → ℕ
@@ -40,6 +46,10 @@ withState first st taken passed =
 
 abbrev pub packedOutcome : Outcome → ℕ
 packedOutcome o = withState (orRefused (o .refusal) (valueOrNone (o .byte))) (o .state) (o .taken) (o .passed)
+
+abbrev pub packedRead : ReadOutcome → ℕ
+packedRead o =
+    withState (orRefused (o .outcome .refusal) (readOrNone (o .outcome .byte) (o .seen))) (o .outcome .state) (o .outcome .taken) (o .outcome .passed)
 
 abbrev pub packedSkip : SkipOutcome → ℕ
 packedSkip o = withState (orRefused (o .refusal) (valueOrNone (o .zeros))) (o .state) (o .taken) (o .passed)
@@ -72,7 +82,7 @@ unfoldable pub answerTo : ℕ → List ℕ → State → Reader → ℕ → Repe
 answerTo kind s st r value =
     cond (eqb kind 0) (Packed (packedOutcome (peekOf (readingFor st r) s st r)))
     (cond (eqb kind 1) (Packed (packedOutcome (nextOf (readingFor st r) s st r)))
-    (cond (eqb kind 2) (Packed (packedOutcome (readIfOf (readingFor st r) s st r (λ b. eqb b value))))
+    (cond (eqb kind 2) (Packed (packedRead (readOf (readingFor st r) s st r (λ b. eqb b value))))
     (cond (eqb kind 3) (Packed (packedOutcome (nextAllOf (readingFor st r) s st r)))
     (cond (eqb kind 4) (Packed (packedSkip (skipZerosOf (readingFor st r) s st r)))
     (cond (eqb kind 5) (Packed (packedBlock (takeNOf (readingFor st r) s st r value)))

@@ -1,10 +1,10 @@
 // A recorded call of a reader, made anew: the record's fields are packed numbers.
 ghost use mathlib.Core.Path.{_≡_};
-ghost use Rattle.reader.specs.Answer.{seenNumber, seenByte, readNumber, readByte, skipNumber, skipZeros, blockNumber, blockBytes};
+ghost use Rattle.reader.specs.Answer.{seenNumber, seenByte, readNumber, readByte, readSeen, skipNumber, skipZeros, blockNumber, blockBytes};
 ghost use Rattle.reader.specs.Answer.{outcomeOf, readOutcomeOf, skipOutcomeOf, blockOutcomeOf};
 ghost use Rattle.cells.specs.DigitRun.{runNumber, runValue, runOutcomeOf};
-ghost use Rattle.vectors.specs.Call.{orRefused, valueOrNone, blockOrNone, withState};
-ghost use Rattle.vectors.specs.Call.{packedOutcome, packedSkip, packedBlock, packedPart, packedRun, packedValue};
+ghost use Rattle.vectors.specs.Call.{orRefused, valueOrNone, readOrNone, blockOrNone, withState};
+ghost use Rattle.vectors.specs.Call.{packedOutcome, packedRead, packedSkip, packedBlock, packedPart, packedRun, packedValue};
 ghost use Rattle.vectors.specs.Call.{bufferOf, stateOf, answerTo, repeatedOf};
 use crate::packed::byte_of;
 use crate::packed::pushed;
@@ -40,7 +40,7 @@ use word::format_flags::Format;
 const MOST: usize = 8;
 
 // What a call answered, packed as the record has it: whether there was a byte or a block (1 for a zero skip or a digit run, 2 where the
-// call was refused), the byte, how many zeros or the value's lowest byte (the refusal's number), the cursor, what was passed, the three
+// call was refused, 3 where a read declined the byte), the byte, how many zeros or the value's lowest byte (the refusal's number), the cursor, what was passed, the three
 // counts, and what was taken. Of a block's part instead its length and its bytes, the last one lowest; of a run's value that number.
 pub enum Repeated {
     Packed(u64),
@@ -94,11 +94,12 @@ fn first_of_seen(seen: Seen) -> u64
 }
 
 fn first_of_read(read: Read) -> u64
-    ensures { λ r. ⌜ r ≡ orRefused (readNumber read) (valueOrNone (readByte read)) ⌝ }
+    ensures { λ r. ⌜ r ≡ orRefused (readNumber read) (readOrNone (readByte read) (readSeen read)) ⌝ }
 {
     match read {
         Read::Taken(b) => pushed(1, b as usize),
-        Read::Declined => 0,
+        Read::Declined(b) => pushed(3, b as usize),
+        Read::End => 0,
         Read::Refused(refusal) => pushed(2, refusal.number() as usize),
     }
 }
@@ -142,7 +143,7 @@ fn pack(a: Answer) -> u64
 }
 
 fn pack_read(a: ReadAnswer) -> u64
-    ensures { λ r. ⌜ r ≡ packedOutcome (readOutcomeOf a) ⌝ }
+    ensures { λ r. ⌜ r ≡ packedRead (readOutcomeOf a) ⌝ }
 {
     let report = a.report;
     let read = report.read;

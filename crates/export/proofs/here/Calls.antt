@@ -16,7 +16,7 @@ use Rattle.reader.specs.declared.state.Reader.{Reader}
 use Rattle.reader.specs.declared.state.State.{State}
 use Rattle.reader.specs.Reading.{Reading, flagsOf, syntaxOf, syntaxOn, readingWith, readingFor, hasAnyFlag, isConsecutiveAlone}
 use Rattle.reader.specs.State.{countSum, movedTo, countedBy, isCounted}
-use Rattle.reader.specs.Answer.{Outcome, SkipOutcome}
+use Rattle.reader.specs.Answer.{Outcome, ReadOutcome, SkipOutcome}
 use Rattle.reader.specs.Repeat.{untilNone, repeated}
 use Rattle.reader.specs.Calls.{peekOf, nextOf, takenFrom, readIfOf}
 use Rattle.reader.specs.ZeroSkip.{isZero, skipRefusal, zeroReadOf, skipZerosOf}
@@ -60,7 +60,7 @@ module _ (n : ℕ) (w s : List ℕ) (here : Sight n w s none) where
   unfolding takenBy nextOf
   taken-end = rw (by n w s none here, peek-here n w s none here)
 
-  pub read-end : (wanted : ℕ → Bool) → readBy n w s wanted ≡ seenAt w none
+  pub read-end : (wanted : ℕ → Bool) → readBy n w s wanted ≡ record { outcome = seenAt w none; seen = none }
   unfolding readBy readIfOf
   read-end wanted = rw (by n w s none here, peek-here n w s none here)
 
@@ -95,11 +95,11 @@ module _ (n : ℕ) (w s : List ℕ) (b : ℕ) (here : Sight n w s (some b)) wher
 
   -- a read of a byte that is wanted, and of one that is not
   pub read-taken : (wanted : ℕ → Bool) → wanted b ≡ true
-      → readBy n w s wanted ≡ record { refusal = 0; byte = some b; taken = 1; passed = 0; state = movedTo (stateIn w) (getD w 2 0 + 1) }
+      → readBy n w s wanted ≡ record { outcome = record { refusal = 0; byte = some b; taken = 1; passed = 0; state = movedTo (stateIn w) (getD w 2 0 + 1) }; seen = some b }
   unfolding readBy readIfOf
   read-taken wanted holds = rw (by n w s (some b) here, peek-here n w s (some b) here, holds)
 
-  pub read-declined : (wanted : ℕ → Bool) → wanted b ≡ false → readBy n w s wanted ≡ seenAt w none
+  pub read-declined : (wanted : ℕ → Bool) → wanted b ≡ false → readBy n w s wanted ≡ record { outcome = seenAt w none; seen = some b }
   unfolding readBy readIfOf
   read-declined wanted fails = rw (by n w s (some b) here, peek-here n w s (some b) here, fails)
 

@@ -4,13 +4,13 @@ use mathlib.Core.Path.{_≡_, _∙_, refl, ap}
 use mathlib.Core.List.{List}
 use Prim.Native.Nat.{ℕ}
 use Rattle.reader.specs.declared.state.State.{State}
-use Rattle.reader.specs.Calls.{refused}
+use Rattle.reader.specs.Calls.{refused, refusedRead}
 use Rattle.reader.specs.ZeroSkip.{refusedSkip}
 use Rattle.reader.specs.Block.{refusedBlock}
 use Rattle.cells.specs.DigitRun.{refusedRun}
 use Rattle.export.specs.declared.reply.Reply.{Reply}
 use Rattle.export.specs.State.{stateWords}
-use Rattle.export.specs.Code.Reply.{byteReply, zerosReply, blockReply, valueReply, refusedReply, replyWords}
+use Rattle.export.specs.Code.Reply.{byteReply, readReply, zerosReply, blockReply, valueReply, refusedReply, replyWords}
 
 pub written-as :
     (w : List ℕ) (reply due : Reply) → reply ≡ due
@@ -25,6 +25,10 @@ module _ (number : ℕ) (st : State) (old : ℕ) where
   pub byte-refused : refusedReply number st old ≡ byteReply old (refused number st)
   unfolding byteReply
   byte-refused = refl
+
+  pub read-refused : refusedReply number st old ≡ readReply old (refusedRead number st)
+  unfolding readReply
+  read-refused = refl
 
   pub zeros-refused : refusedReply number st old ≡ zerosReply old (refusedSkip number st)
   unfolding zerosReply

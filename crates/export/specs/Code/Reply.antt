@@ -2,15 +2,19 @@
 use Prim.Native.Nat.{ℕ}
 use mathlib.Core.List.{List, [], _∷_}
 use Rattle.reader.specs.declared.state.State.{State}
-use Rattle.reader.specs.Answer.{Outcome, SkipOutcome, BlockOutcome}
+use Rattle.reader.specs.Answer.{Outcome, ReadOutcome, SkipOutcome, BlockOutcome}
 use Rattle.cells.specs.DigitRun.{RunOutcome}
 use Rattle.export.specs.declared.reply.Reply.{Reply}
-use Rattle.export.specs.Answer.{isThere, orOld, blockPlace}
+use Rattle.export.specs.Answer.{isThere, orOld, howRead, blockPlace}
 
 -- `old` is what the caller has in the answer's second word
 unfoldable pub byteReply : ℕ → Outcome → Reply
 byteReply old o =
     record { number = o .refusal; state = o .state; found = isThere (o .byte); value = orOld old (o .byte); taken = o .taken; passed = o .passed }
+
+unfoldable pub readReply : ℕ → ReadOutcome → Reply
+readReply old o =
+    record { number = o .outcome .refusal; state = o .outcome .state; found = howRead (o .outcome .byte) (o .seen); value = orOld old (o .seen); taken = o .outcome .taken; passed = o .outcome .passed }
 
 unfoldable pub zerosReply : ℕ → SkipOutcome → Reply
 zerosReply old o =

@@ -12,11 +12,11 @@ use Rattle.reader.specs.Reading.{Reading}
 use Rattle.reader.specs.State.{Sheet, sheetOf, freshOn, countOf, movedTo}
 use Rattle.reader.specs.Answer.{Outcome}
 use Rattle.reader.specs.Calls.{peekOf, nextOf, readIfOf}
-use Rattle.reader.specs.History.{Call, peekBy, takeBy, readIfBy, zeroSkipBy, blockBy, Answered, takeAnswered, readAnswered, answerBy, answerTo, numberIn, takenIn, passedIn, returned, shownIn, Trace, traceFrom, withAnswer, traceOf, totalOf, stepsOf}
+use Rattle.reader.specs.History.{Call, peekBy, takeBy, readIfBy, zeroSkipBy, blockBy, Answered, takeAnswered, readAnswered, answerBy, answerTo, numberIn, takenIn, passedIn, returned, shownIn, seenIn, Trace, traceFrom, withAnswer, traceOf, totalOf, stepsOf}
 use Rattle.reader.specs.ByteTally.{CountsAgree, SkipsTold, WordKept, readerOf, Preceded, peekBefore, PeekChangesNothing, traceFresh, ByteTally}
 use Rattle.reader.proofs.ByteTally.Settling.{Settles}
 use Rattle.reader.proofs.ByteTally.Peek.{peeks}
-use Rattle.reader.proofs.ByteTally.InsertedPeek.{withoutPassed, take-after-peek, read-after-peek, take-passes, read-passes, zeros-same, state-same, passed-adds, skip-clear}
+use Rattle.reader.proofs.ByteTally.InsertedPeek.{withoutPassed, take-after-peek, read-sees-same, take-passes, read-passes, zeros-same, state-same, passed-adds, skip-clear}
 use Rattle.reader.proofs.ByteTally.Invariant.{Tallied}
 use Rattle.reader.proofs.ByteTally.Calls.{Answering, answering}
 use Rattle.reader.proofs.ByteTally.ZeroSkips.{count-agrees, answer-told, agreed}
@@ -88,14 +88,15 @@ module _ (m : Sheet → Reader → Reading) (s : List ℕ) (st : State) (law : (
 
   -- from an answer after the peek that shows the same and returns the same state
   changes-nothing : (call : Call) (a : Answered) → answerBy (m (sheetOf st)) s (returned (peekBefore m s st call)) call ≡ a
-      → shownIn a ≡ shownIn (answerTo m s st call) → returned a ≡ returned (answerTo m s st call)
+      → shownIn a ≡ shownIn (answerTo m s st call) → seenIn a ≡ seenIn (answerTo m s st call) → returned a ≡ returned (answerTo m s st call)
       → passedIn (peekBefore m s st call) + passedIn a ≡ passedIn (answerTo m s st call)
       → PeekChangesNothing m s st call
-  changes-nothing call a is shown state passed =
+  changes-nothing call a is shown seen state passed =
       let same = after-peek call ∙ is in
       let to = ap returned same ∙ state in
       record {
         shown = ap shownIn same ∙ shown;
+        seen = ap seenIn same ∙ seen;
         state = to;
         rest = λ calls. ap (λ (t : State). traceOf m s (traceFrom t) calls) to;
         passed = ap (λ (b : Answered). passedIn (peekBefore m s st call) + passedIn b) same ∙ passed;
@@ -105,17 +106,18 @@ module _ (m : Sheet → Reader → Reading) (s : List ℕ) (st : State) (law : (
   peek-changes-nothing (peekBy r) never = absurd never
   peek-changes-nothing (takeBy r) allowed =
       let by = m (sheetOf st) r in
-      changes-nothing (takeBy r) (takeAnswered r (withoutPassed (nextOf by s st r))) (ap (takeAnswered r) (take-after-peek by (law r) s st r)) refl refl
+      changes-nothing (takeBy r) (takeAnswered r (withoutPassed (nextOf by s st r))) (ap (takeAnswered r) (take-after-peek by (law r) s st r)) refl refl refl
       (rw (take-passes by (law r) s st r) (add-zero (peekOf by s st r .passed)))
   peek-changes-nothing (readIfBy r wanted) allowed =
       let by = m (sheetOf st) r in
-      changes-nothing (readIfBy r wanted) (readAnswered r (withoutPassed (readIfOf by s st r wanted))) (ap (readAnswered r) (read-after-peek by (law r) s st r wanted)) refl refl
+      changes-nothing (readIfBy r wanted) (readAnswered r (record { outcome = withoutPassed (readIfOf by s st r wanted); seen = peekOf by s st r .byte }))
+      (ap (readAnswered r) (read-sees-same by (law r) s st r wanted)) refl refl refl
       (rw (read-passes by (law r) s st r wanted) (add-zero (peekOf by s st r .passed)))
   peek-changes-nothing (zeroSkipBy r) clear =
       let by = m (sheetOf st) r in
       let open-to = skip-clear by (law r) s st r clear in
       changes-nothing (zeroSkipBy r) _ refl
-      (zeros-same by (law r) s st r open-to) (state-same by (law r) s st r open-to) (passed-adds by (law r) s st r open-to)
+      (zeros-same by (law r) s st r open-to) refl (state-same by (law r) s st r open-to) (passed-adds by (law r) s st r open-to)
   peek-changes-nothing (blockBy r n) never = absurd never
 
 -- a list of calls goes on from where its first part has come to, and from there by the state alone

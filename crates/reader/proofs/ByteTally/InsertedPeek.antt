@@ -16,7 +16,7 @@ use Rattle.reader.specs.declared.state.State.{State}
 use Rattle.reader.specs.Reading.{Reading, passedAt}
 use Rattle.reader.specs.State.{countOf, countSum, movedTo}
 use Rattle.reader.specs.Answer.{Outcome, SkipOutcome}
-use Rattle.reader.specs.Calls.{refusalOf, refusalWith, refused, seenPast, peeked, peekOf, takeByte, nextOf, readByteIf, readIfOf}
+use Rattle.reader.specs.Calls.{refusalOf, refusalWith, refused, seenPast, peeked, peekOf, takeByte, nextOf, readByteIf, readIfOf, readOf}
 use Rattle.reader.specs.Repeat.{plus, summed, untilNone, repeated}
 use Rattle.reader.specs.ZeroSkip.{isZero, raised, zeroReadOf, skipRefusal, skipped, skipZerosOf}
 use Rattle.reader.proofs.state.Refusals.{within, skip-within, still-admitted, still-skipping, peek-admitted, turned-away}
@@ -111,10 +111,15 @@ module _ (m : Reading) (law : Settles m) (s : List ℕ) (st : State) (r : Reader
   take-after-peek =
       ap (λ (o : Outcome). takeByte m r o (o .byte)) peek-twice ∙ take-without m r (peekOf m s st r) (peekOf m s st r .byte)
 
-  pub read-after-peek : (wanted : ℕ → Bool) → readIfOf m s (peekOf m s st r .state) r wanted ≡ withoutPassed (readIfOf m s st r wanted)
+  read-after-peek : (wanted : ℕ → Bool) → readIfOf m s (peekOf m s st r .state) r wanted ≡ withoutPassed (readIfOf m s st r wanted)
   unfolding readIfOf
   read-after-peek wanted =
       ap (λ (o : Outcome). readByteIf wanted o (o .byte)) peek-twice ∙ read-without wanted (peekOf m s st r) (peekOf m s st r .byte)
+
+  -- and sees what it would have seen
+  pub read-sees-same : (wanted : ℕ → Bool)
+      → readOf m s (peekOf m s st r .state) r wanted ≡ record { outcome = withoutPassed (readIfOf m s st r wanted); seen = peekOf m s st r .byte }
+  read-sees-same wanted = λ i. record { outcome = read-after-peek wanted i; seen = peek-twice i .byte }
 
   zero-after-peek : zeroReadOf m s r (peekOf m s st r .state) ≡ withoutPassed (zeroReadOf m s r st)
   unfolding zeroReadOf

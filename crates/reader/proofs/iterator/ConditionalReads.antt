@@ -1,6 +1,6 @@
 -- What a conditional read may answer, by cases; and that it asks its set only of bytes of the buffer, so that two sets that agree on
 -- all bytes read alike: for this room and both demands. Assumes nothing.
-use mathlib.Core.Path.{_≡_, refl, _∙_, sym}
+use mathlib.Core.Path.{_≡_, refl, _∙_, sym, ap}
 use mathlib.Core.Bool.{Bool, true, false}
 use mathlib.Core.List.{List}
 use mathlib.Core.Option.{Option, some, none}
@@ -8,8 +8,8 @@ use Prim.Native.Nat.{ℕ, _+_, _<_}
 use Rattle.reader.specs.declared.state.Reader.{Reader}
 use Rattle.reader.specs.declared.state.State.{State}
 use Rattle.reader.specs.Reading.{Reading, passedAt}
-use Rattle.reader.specs.Answer.{Outcome}
-use Rattle.reader.specs.Calls.{peekOf, readTaken, readDeclined, readByteIf, readIfOf, refusalOf, peeked}
+use Rattle.reader.specs.Answer.{Outcome, ReadOutcome}
+use Rattle.reader.specs.Calls.{peekOf, readTaken, readDeclined, readByteIf, readIfOf, readOf, refusalOf, peeked}
 use lib.Dec.{eqb, ltb}
 use lib.ListN.{length, getD}
 use borrow.Author.Tests.{ltb-true, ltb-false}
@@ -58,6 +58,9 @@ module _ (s : List ℕ) (bytes : (i : ℕ) → i < length s → getD s i 0 < 256
     same-read seen none small = refl
     same-read seen (some b) small = rw (agree b (small b refl))
 
-    pub reads-alike : (m : Reading) (st : State) (r : Reader) → readIfOf m s st r f ≡ readIfOf m s st r g
+    same-outcome : (m : Reading) (st : State) (r : Reader) → readIfOf m s st r f ≡ readIfOf m s st r g
     unfolding readIfOf
-    reads-alike m st r = same-read (peekOf m s st r) (peekOf m s st r .byte) (seen-small m st r)
+    same-outcome m st r = same-read (peekOf m s st r) (peekOf m s st r .byte) (seen-small m st r)
+
+    pub reads-alike : (m : Reading) (st : State) (r : Reader) → readOf m s st r f ≡ readOf m s st r g
+    reads-alike m st r = ap (λ (o : Outcome). record { outcome = o; seen = peekOf m s st r .byte }) (same-outcome m st r)

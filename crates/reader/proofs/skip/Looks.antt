@@ -10,7 +10,7 @@ use Rattle.reader.specs.declared.state.State.{State}
 use Rattle.reader.specs.declared.skip.Looked.the-variants.{Byte, End, Refused}
 use Rattle.reader.specs.Code.Looks.{lookOutcome}
 use Rattle.reader.specs.Answer.{numberOf}
-use Rattle.reader.specs.Calls.{seenPast, refused, peekOf, takenFrom, nextOf, readIfOf}
+use Rattle.reader.specs.Calls.{seenPast, refused, peekOf, takenFrom, nextOf, readIfOf, readOf, refusedRead}
 use mathlib.Core.Bool.{Bool, true, false}
 use Rattle.reader.specs.declared.state.Reader.{Reader}
 use Rattle.reader.specs.declared.state.Refusal.{Refusal}
@@ -41,12 +41,12 @@ module _ (m : Reading) (s : List ℕ) (st : State) (r : Reader) where
     takes-byte = rw (sym seen)
 
     pub reads-byte : (wanted : ℕ → Bool) → wanted b ≡ true
-        → record { refusal = 0; byte = some b; taken = 1; passed = passed; state = movedTo st (place + 1) } ≡ readIfOf m s st r wanted
+        → record { outcome = record { refusal = 0; byte = some b; taken = 1; passed = passed; state = movedTo st (place + 1) }; seen = some b } ≡ readOf m s st r wanted
     unfolding readIfOf movedTo
     reads-byte wanted holds = rw (sym seen, holds)
 
     pub declines-byte : (wanted : ℕ → Bool) → wanted b ≡ false
-        → record { refusal = 0; byte = none; taken = 0; passed = passed; state = movedTo st place } ≡ readIfOf m s st r wanted
+        → record { outcome = record { refusal = 0; byte = none; taken = 0; passed = passed; state = movedTo st place }; seen = some b } ≡ readOf m s st r wanted
     unfolding readIfOf
     declines-byte wanted fails = rw (sym seen, fails)
 
@@ -55,15 +55,15 @@ module _ (m : Reading) (s : List ℕ) (st : State) (r : Reader) where
     unfolding nextOf
     takes-end = rw (sym seen)
 
-    pub declines-end : (wanted : ℕ → Bool) → lookOutcome st (End place passed) ≡ readIfOf m s st r wanted
+    pub reads-end : (wanted : ℕ → Bool) → record { outcome = lookOutcome st (End place passed); seen = none } ≡ readOf m s st r wanted
     unfolding readIfOf
-    declines-end wanted = rw (sym seen)
+    reads-end wanted = rw (sym seen)
 
   module _ (e : Refusal) (seen : lookOutcome st (Refused e) ≡ peekOf m s st r) where
     pub takes-refused : refused (numberOf e) st ≡ nextOf m s st r
     unfolding nextOf
     takes-refused = rw (sym seen)
 
-    pub reads-refused : (wanted : ℕ → Bool) → refused (numberOf e) st ≡ readIfOf m s st r wanted
+    pub reads-refused : (wanted : ℕ → Bool) → refusedRead (numberOf e) st ≡ readOf m s st r wanted
     unfolding readIfOf
     reads-refused wanted = rw (sym seen)

@@ -30,14 +30,14 @@ enum-known-here c = search needs
 has-byte-requires : tie.Need-has-byte-requires
 has-byte-requires c κs = search needs
 
-answer-none-requires : tie.Need-answer-none-requires
-answer-none-requires c κs = search needs
+decline-here-requires : tie.Need-decline-here-requires
+decline-here-requires c κs = search needs
 
 returns-2 : tie.Need-returns-2
 returns-2 c =
     let a = c .before .before .before .before .before .before .before .before .before .before .before .before .args in
     let here = byte-sight (a .reader) (a .state .now) (a .s .now) _ (c .before .before .before .before .before .before .before .before .found-here .ensures) _ (c .before .before .before .before .before .before .here .given .1) in
-    rw (read-declined (a .reader) (a .state .now) (a .s .now) _ here (member (setIn (a .set .now))) (sym (c .before .before .before .before .has-byte .ensures) ∙ not-true _ (c .before .before .before .if2 .taken))) (c .answer-none .ensures)
+    rw (read-declined (a .reader) (a .state .now) (a .s .now) _ here (member (setIn (a .set .now))) (sym (c .before .before .before .before .has-byte .ensures) ∙ not-true _ (c .before .before .before .if2 .taken))) (c .decline-here .ensures)
 
 element-copy-out-past : tie.Need-element-copy-out-past
 element-copy-out-past c = search needs
@@ -58,8 +58,8 @@ take-here-requires c κs =
 enum-told : tie.Need-enum-told
 enum-told c = search needs
 
-answer-none-requires-2 : tie.Need-answer-none-requires-2
-answer-none-requires-2 c κs = search needs
+answer-none-requires : tie.Need-answer-none-requires
+answer-none-requires c κs = search needs
 
 enum-told-2 : tie.Need-enum-told-2
 enum-told-2 c = search needs
@@ -85,7 +85,7 @@ returns-4 : tie.Need-returns-4
 returns-4 c =
     let a = c .before .before .before .before .before .before .before .before .before .args in
     let here = end-sight (a .reader) (a .state .now) (a .s .now) _ (c .before .before .before .before .before .found-here .ensures) (c .before .before .before .enum-told .given .1) in
-    rw (read-end (a .reader) (a .state .now) (a .s .now) here (member (setIn (a .set .now)))) (c .answer-none2 .ensures)
+    rw (read-end (a .reader) (a .state .now) (a .s .now) here (member (setIn (a .set .now)))) (c .answer-none .ensures)
 
 returns-5 : tie.Need-returns-5
 returns-5 c = search needs
@@ -102,13 +102,13 @@ pawhetino-read-if-spec =
     found-here-requires
     enum-known-here
     has-byte-requires
-    answer-none-requires
+    decline-here-requires
     returns-2
     element-copy-out-past
     add-past
     take-here-requires
     enum-told
-    answer-none-requires-2
+    answer-none-requires
     enum-told-2
     read-any-requires-2
     enum-told-3

@@ -26,14 +26,14 @@ found-here-requires c κs = search needs
 enum-known-here : tie.Need-enum-known-here
 enum-known-here c = search needs
 
-answer-none-requires : tie.Need-answer-none-requires
-answer-none-requires c κs = search needs
+decline-here-requires : tie.Need-decline-here-requires
+decline-here-requires c κs = search needs
 
 returns-2 : tie.Need-returns-2
 returns-2 c =
     let a = c .before .before .before .before .before .before .before .before .before .before .before .args in
     let here = byte-sight (a .reader) (a .state .now) (a .s .now) _ (c .before .before .before .before .before .before .before .found-here .ensures) _ (c .before .before .before .before .before .here .given .1) in
-    rw (read-declined (a .reader) (a .state .now) (a .s .now) _ here (λ b. eqb b (a .value)) (ne-eqb _ _ (c .before .before .before .if2 .taken))) (c .answer-none .ensures)
+    rw (read-declined (a .reader) (a .state .now) (a .s .now) _ here (λ b. eqb b (a .value)) (ne-eqb _ _ (c .before .before .before .if2 .taken))) (c .decline-here .ensures)
 
 element-copy-out-past : tie.Need-element-copy-out-past
 element-copy-out-past c = search needs
@@ -54,8 +54,8 @@ take-here-requires c κs =
 enum-told : tie.Need-enum-told
 enum-told c = search needs
 
-answer-none-requires-2 : tie.Need-answer-none-requires-2
-answer-none-requires-2 c κs = search needs
+answer-none-requires : tie.Need-answer-none-requires
+answer-none-requires c κs = search needs
 
 enum-told-2 : tie.Need-enum-told-2
 enum-told-2 c = search needs
@@ -81,7 +81,7 @@ returns-4 : tie.Need-returns-4
 returns-4 c =
     let a = c .before .before .before .before .before .before .before .before .before .args in
     let here = end-sight (a .reader) (a .state .now) (a .s .now) _ (c .before .before .before .before .before .found-here .ensures) (c .before .before .before .enum-told .given .1) in
-    rw (read-end (a .reader) (a .state .now) (a .s .now) here (λ b. eqb b (a .value))) (c .answer-none2 .ensures)
+    rw (read-end (a .reader) (a .state .now) (a .s .now) here (λ b. eqb b (a .value))) (c .answer-none .ensures)
 
 returns-5 : tie.Need-returns-5
 returns-5 c = search needs
@@ -97,13 +97,13 @@ pawhetino-read-if-value-cased-spec =
     returns
     found-here-requires
     enum-known-here
-    answer-none-requires
+    decline-here-requires
     returns-2
     element-copy-out-past
     add-past
     take-here-requires
     enum-told
-    answer-none-requires-2
+    answer-none-requires
     enum-told-2
     read-value-any-requires-2
     enum-told-3

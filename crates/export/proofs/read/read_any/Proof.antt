@@ -1,8 +1,8 @@
 -- `export::read::read_any` meets its contract. Assumes nothing.
 use mathlib.Core.Path.{_∙_, ap}
 use Rattle.export.specs.Calls.{readBy}
-use Rattle.export.specs.Code.Reply.{byteReply}
-use Rattle.export.proofs.reply.Words.{written-as, byte-refused}
+use Rattle.export.specs.Code.Reply.{readReply}
+use Rattle.export.proofs.reply.Words.{written-as, read-refused}
 use Rattle.reader.proofs.state.Readers.{named, unnamed}
 use borrow.Author.Needs.{needs}
 use Rattle.export.proofs.read.read_any.Statement.{statement}
@@ -45,17 +45,17 @@ put-requires-2 : tie.Need-put-requires-2
 put-requires-2 c κs = search needs
 
 returns : tie.Need-returns
-unfolding readBy byteReply
+unfolding readBy readReply
 returns c =
     let e = named _ _ (c .before .before .before .before .before .before .before .before .reader-on .ensures) _ (c .before .before .before .before .before .before .by .given .1) in
     let outcome = rw (c .before .before .before .before .before .before .before .before .before .before .state-in .ensures, c .before .before .before .before .before .before .before .before .before .before .before .before .set-in .ensures) at (c .before .before .before .before .read-if .ensures) in
-    rw e (written-as (c .before .before .before .before .before .before .before .before .before .before .before .before .before .before .before .args .state .now) _ _ (c .before .before .before .of-read .ensures ∙ ap (byteReply _) outcome) (c .put .ensures))
+    rw e (written-as (c .before .before .before .before .before .before .before .before .before .before .before .before .before .before .before .args .state .now) _ _ (c .before .before .before .of-read .ensures ∙ ap (readReply _) outcome) (c .put .ensures))
 
 returns-2 : tie.Need-returns-2
-unfolding readBy byteReply
+unfolding readBy readReply
 returns-2 c =
     let e = unnamed _ _ (c .before .before .before .before .before .before .reader-on .ensures) (c .before .before .before .before .enum-told .given .1) in
-    rw e (written-as (c .before .before .before .before .before .before .before .before .before .before .before .before .before .args .state .now) _ _ (c .before .before .before .refused .ensures ∙ rw (c .before .before .before .before .before .before .before .before .state-in .ensures) (byte-refused 19 _ _)) (c .put2 .ensures))
+    rw e (written-as (c .before .before .before .before .before .before .before .before .before .before .before .before .before .args .state .now) _ _ (c .before .before .before .refused .ensures ∙ rw (c .before .before .before .before .before .before .before .before .state-in .ensures) (read-refused 19 _ _)) (c .put2 .ensures))
 
 pub read-any-spec : {M : Type 1} → statement M
 read-any-spec =

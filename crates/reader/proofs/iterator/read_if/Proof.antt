@@ -3,7 +3,7 @@ use mathlib.Core.Path.{_∙_, ap}
 use Rattle.word.specs.ByteSet.{member}
 use Rattle.reader.specs.declared.passing.Syntax.{Syntax}
 use Rattle.reader.specs.Reading.{readingWith}
-use Rattle.reader.specs.Calls.{readIfOf}
+use Rattle.reader.specs.Calls.{readOf}
 use borrow.Author.Needs.{needs}
 use Rattle.reader.proofs.iterator.read_if.Statement.{statement}
 use Rattle.reader.proofs.iterator.read_if.Tie as tie
@@ -18,7 +18,7 @@ returns : tie.Need-returns
 returns c =
     let x = c .before in
     let a = x .before .before .args in
-    c .read-in .ensures ∙ ap (λ (y : Syntax). readIfOf (readingWith y) (a .s .now) (a .state) (a .reader) (member (a .wanted))) (x .syntax-for .ensures)
+    c .read-in .ensures ∙ ap (λ (y : Syntax). readOf (readingWith y) (a .s .now) (a .state) (a .reader) (member (a .wanted))) (x .syntax-for .ensures)
 
 pub read-if-spec : {M : Type 1} → statement M
 read-if-spec = tie.close (tie.spec syntax-for-requires read-in-requires returns)

@@ -3,7 +3,7 @@ use native.Mathlib.Omega.{arith}
 use mathlib.Core.Path.{_∙_, sym}
 use Rattle.word.specs.ByteSet.{member}
 use Rattle.reader.specs.Reading.{readingWith}
-use Rattle.reader.proofs.skip.Looks.{seen-as, reads-byte, declines-byte, declines-end, reads-refused}
+use Rattle.reader.proofs.skip.Looks.{seen-as, reads-byte, declines-byte, reads-end, reads-refused}
 use borrow.Author.Needs.{needs}
 use Rattle.reader.proofs.iterator.read_in.Statement.{statement}
 use Rattle.reader.proofs.iterator.read_in.Tie as tie
@@ -81,7 +81,7 @@ returns-3 c =
     let a = l .before .before .args in
     let m = readingWith (a .syntax) in
     rw (c .read-answered3 .ensures, c .before .moved3 .ensures)
-    (declines-end m (a .s .now) (a .state) (a .reader) _ _
+    (reads-end m (a .s .now) (a .state) (a .reader) _ _
     (seen-as m (a .s .now) (a .state) (a .reader) _ _ (l .look .ensures .0) (k .looked2 .given .1)) (member (a .wanted)))
 
 returns-4 : tie.Need-returns-4

@@ -1,5 +1,6 @@
 -- `script::call::reply_to` meets its contract. Assumes nothing.
 use mathlib.Core.Path.{_∙_, ap}
+use Rattle.reader.specs.Answer.{ReadOutcome}
 use Rattle.script.specs.Reply.{outcomeReply, skipReply, blockReply, replyOf}
 use borrow.Author.Needs.{needs}
 use Rattle.script.proofs.call.reply_to.Statement.{statement}
@@ -68,7 +69,7 @@ returns-2 c = c .seen-reply2 .ensures ∙ ap outcomeReply (c .before .next .ensu
 
 returns-3 : tie.Need-returns-3
 unfolding replyOf
-returns-3 c = c .read-reply .ensures ∙ ap outcomeReply (c .before .read-if-value-cased .ensures) ∙ rw (c .before .before .before .call .given .1)
+returns-3 c = c .read-reply .ensures ∙ ap (λ (o : ReadOutcome). outcomeReply (o .outcome)) (c .before .read-if-value-cased .ensures) ∙ rw (c .before .before .before .call .given .1)
 
 returns-4 : tie.Need-returns-4
 unfolding replyOf

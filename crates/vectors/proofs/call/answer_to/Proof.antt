@@ -2,7 +2,7 @@
 use mathlib.Core.Path.{_∙_, ap}
 use borrow.Author.Tests.{ne-eqb}
 use Rattle.vectors.specs.declared.call.Repeated.the-variants.{Packed}
-use Rattle.vectors.specs.Call.{packedOutcome, packedSkip, packedBlock, packedPart, packedRun, packedValue, answerTo}
+use Rattle.vectors.specs.Call.{packedOutcome, packedRead, packedSkip, packedBlock, packedPart, packedRun, packedValue, answerTo}
 use borrow.Author.Needs.{needs}
 use Rattle.vectors.proofs.call.answer_to.Statement.{statement}
 use Rattle.vectors.proofs.call.answer_to.Tie as tie
@@ -76,7 +76,7 @@ returns-2 c = rw (c .before .before .match .keys2) (ap Packed (c .pack2 .ensures
 
 returns-3 : tie.Need-returns-3
 unfolding answerTo
-returns-3 c = rw (c .before .before .match .keys3) (ap Packed (c .pack-read .ensures ∙ ap packedOutcome (c .before .read-if-value-cased .ensures)))
+returns-3 c = rw (c .before .before .match .keys3) (ap Packed (c .pack-read .ensures ∙ ap packedRead (c .before .read-if-value-cased .ensures)))
 
 returns-4 : tie.Need-returns-4
 unfolding answerTo
