@@ -145,12 +145,18 @@ static inline const char *pawhetino_number_words(uint32_t number) {
 
 /* The words of an answer. What word 1 tells goes by the call; where there is nothing to tell it is left as it was. */
 #define PAWHETINO_ANSWER_HAS 0    /* 1 where there is a byte, a block or a value, else 0 */
-#define PAWHETINO_ANSWER_BYTE 1   /* the byte */
+#define PAWHETINO_ANSWER_READ 0   /* of a conditional read: how it ended, below */
+#define PAWHETINO_ANSWER_BYTE 1   /* the byte, of a declined read the one seen */
 #define PAWHETINO_ANSWER_ZEROS 1  /* of a zero skip: how many */
 #define PAWHETINO_ANSWER_START 1  /* of a block: its place in the buffer */
 #define PAWHETINO_ANSWER_VALUE 1  /* of a digit run: the value */
 #define PAWHETINO_ANSWER_TAKEN 2  /* how many bytes were taken */
 #define PAWHETINO_ANSWER_PASSED 3 /* how many separators were passed */
+
+/* How a conditional read ends. */
+#define PAWHETINO_READ_END 0      /* there is no byte: exactly where a peek by the same reader would have none */
+#define PAWHETINO_READ_TAKEN 1    /* the byte is one that was asked for, and is taken */
+#define PAWHETINO_READ_DECLINED 2 /* it is another one, which is told and stays under the cursor */
 
 /* The full check of a word: 0, or the first of 1 to 14 that holds. */
 uint32_t pawhetino_format_error(uint64_t lo, uint64_t hi);
@@ -191,17 +197,17 @@ uint32_t pawhetino_next(const uint8_t *s, size_t len, uint8_t reader, uint64_t s
 /* Takes until there is no byte, so that its answer has none. Taken and passed are the sums of all the takes. */
 uint32_t pawhetino_next_all(const uint8_t *s, size_t len, uint8_t reader, uint64_t state[8], uint64_t answer[4]);
 
-/* Takes the byte, uncounted, where it is in a set of 256 bits, set[0] the lowest 64. Where it is not, there is none, yet the
- * passing stays. */
+/* Takes the byte that a peek would find, uncounted, where it is in a set of 256 bits, set[0] the lowest 64. Word 0 of the answer is
+ * one of the three above, and what was passed stays passed in each of them. */
 uint32_t pawhetino_read_if(
     const uint8_t *s, size_t len, uint8_t reader, uint64_t state[8], uint64_t answer[4], const uint64_t set[4]);
 
-/* The same for one byte. */
+/* The same for a set of one byte. */
 uint32_t pawhetino_read_if_value_cased(
     const uint8_t *s, size_t len, uint8_t reader, uint64_t state[8], uint64_t answer[4], uint8_t value);
 
-/* Takes the zeros under the cursor, each of which is counted, until a read of one fails; what that read passed stays. Word 0 of the
- * answer is 0. */
+/* Takes the zeros under the cursor, each of which is counted, until a read of one is declined or at the end; what that read passed
+ * stays. Word 0 of the answer is 0. */
 uint32_t pawhetino_skip_zeros(const uint8_t *s, size_t len, uint8_t reader, uint64_t state[8], uint64_t answer[4]);
 
 /* Takes up to n bytes at once, uncounted, by a reader without flags: a block, which may be empty. Its length is what was taken. A
