@@ -8,6 +8,7 @@ pub mod compiled;
 pub mod draw;
 pub mod library;
 pub mod port;
+pub mod read;
 pub mod refusal;
 pub mod run;
 pub mod run_end;

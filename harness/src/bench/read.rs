@@ -23,13 +23,18 @@ impl Work for Read {
 
     #[inline(always)]
     fn port(&self, case: &mut Case) -> Outcome {
-        let byte = port::read_if_value_cased(case, self.0);
+        let byte = port::read_if_value_cased(case, self.0).taken();
         Outcome::of_port(case, found(byte), usize::from(byte.is_some()))
     }
 
+    /// The byte of a declined read is left out, since the crate tells none.
     #[inline(always)]
     fn library(&self, fresh: &RawState, cell: &[u8]) -> Outcome {
-        ask(Call::ReadIfValueCased(self.0), fresh, cell)
+        let outcome = ask(Call::ReadIfValueCased(self.0), fresh, cell);
+        Outcome {
+            found: outcome.found * outcome.taken,
+            ..outcome
+        }
     }
 }
 

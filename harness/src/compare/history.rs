@@ -9,8 +9,7 @@ use crate::readers::table::View;
 use crate::word::{Field, Word};
 
 /// The calls so far. A zero skip stands in it as its reads, each a step with
-/// the call `SkipZeros` and an answer that has a byte or none; a digit run as its
-/// peeks and takes.
+/// the call `SkipZeros` and a read's answer; a digit run as its peeks and takes.
 pub struct History<'a> {
     word: Word,
     buffer: &'a [u8],
@@ -75,11 +74,12 @@ impl<'a> History<'a> {
             && (place..place + separators).all(|place| view.is_separator(view.at(place)))
     }
 
-    /// What a call answered as taken. A peek takes nothing of what it finds.
+    /// What a call answered as taken. A peek takes nothing of what it finds, a
+    /// declined read nothing of what it saw.
     fn taken_bytes(&self, call: Call, answer: &Answer) -> Vec<u8> {
         let what = answer.found.what;
         match call {
-            _ if answer.number != ACCEPTED || answer.found.is_there == 0 => Vec::new(),
+            _ if answer.number != ACCEPTED || !answer.found.is_there() => Vec::new(),
             Call::Peek => Vec::new(),
             Call::TakeN(_) => self.buffer[what as usize..][..answer.taken].to_vec(),
             _ => vec![what as u8],

@@ -20,33 +20,48 @@ enum Outcome {
     Passed,
     DidNeither,
     GaveNoBlock,
+    PassedAndDeclined,
+    Declined,
 }
 
 use Outcome::*;
 
-const OUTCOMES: [Outcome; 6] = [
+const OUTCOMES: [Outcome; 8] = [
     Refused,
     TookAndPassed,
     Took,
     Passed,
     DidNeither,
     GaveNoBlock,
+    PassedAndDeclined,
+    Declined,
 ];
 
 /// The outcomes that each kind of call can have in a list. `next_all` is in
 /// none.
 const POSSIBLE: [&[Outcome]; Call::NAMES.len()] = [
     &[Refused, Passed, DidNeither],
-    FROM_READING,
+    FROM_TAKING,
     &[],
-    FROM_READING,
-    FROM_READING,
-    FROM_READING,
+    FROM_A_READ,
+    FROM_A_READ,
+    FROM_TAKING,
     &[Refused, Took, DidNeither, GaveNoBlock],
     &[Refused, TookAndPassed, Took],
 ];
 
-const FROM_READING: &[Outcome] = &[Refused, TookAndPassed, Took, Passed, DidNeither];
+const FROM_TAKING: &[Outcome] = &[Refused, TookAndPassed, Took, Passed, DidNeither];
+
+/// Without a byte taken or declined a read is at the end.
+const FROM_A_READ: &[Outcome] = &[
+    Refused,
+    TookAndPassed,
+    Took,
+    Passed,
+    DidNeither,
+    PassedAndDeclined,
+    Declined,
+];
 
 impl Outcomes {
     pub fn new(what: &str) -> Self {
@@ -79,10 +94,12 @@ fn outcome(call: Call, answer: &Answer) -> Outcome {
     if answer.number != ACCEPTED {
         return Refused;
     }
-    if matches!(call, Call::TakeN(_)) && answer.found.is_there == 0 {
+    if matches!(call, Call::TakeN(_)) && !answer.found.is_there() {
         return GaveNoBlock;
     }
     match (answer.taken > 0, answer.passed > 0) {
+        (_, true) if answer.found.is_declined() => PassedAndDeclined,
+        (_, false) if answer.found.is_declined() => Declined,
         (true, true) => TookAndPassed,
         (true, false) => Took,
         (false, true) => Passed,

@@ -36,10 +36,16 @@ fn answer(case: &Case, call: Call) -> Option<Answer> {
     let mut after = *case;
     let (found, taken) = match call {
         Call::Peek => (Found::byte(port::peek(&mut after)), 0),
-        Call::Next => of_byte(port::next(&mut after)),
+        Call::Next => {
+            let byte = port::next(&mut after);
+            (Found::byte(byte), usize::from(byte.is_some()))
+        }
         Call::NextAll => (Found::NOTHING, port::next_all(&mut after)),
         Call::ReadIf(_) => return None,
-        Call::ReadIfValueCased(value) => of_byte(port::read_if_value_cased(&mut after, value)),
+        Call::ReadIfValueCased(value) => {
+            let read = port::read_if_value_cased(&mut after, value);
+            (Found::read(read), usize::from(read.taken().is_some()))
+        }
         Call::SkipZeros => {
             let zeros = port::skip_zeros(&mut after);
             (Found::zeros(zeros), zeros)
@@ -52,9 +58,4 @@ fn answer(case: &Case, call: Call) -> Option<Answer> {
         Call::DigitRun => return Some(digit_run(case)),
     };
     Some(Answer::new(case.state, found, taken, after.state))
-}
-
-/// What is found, and how many bytes were taken.
-fn of_byte(byte: Option<u8>) -> (Found, usize) {
-    (Found::byte(byte), usize::from(byte.is_some()))
 }

@@ -1,12 +1,13 @@
-//! Zero skips and blocks whose answers are written down here. Separator `_`,
-//! radix 10, integer reader, counts 0. The Rust is asked as well, so that a
+//! Zero skips, blocks and reads whose answers are written down here. Separator
+//! `_`, radix 10, integer reader. The Rust is asked as well, so that a
 //! wrong build of it cannot agree with a wrong library unseen.
 
 use crate::group::{Group, Report};
 use crate::readers::answer::{Answer, Found};
 use crate::readers::call::{Call, Case, State, INTEGER};
 use crate::readers::library;
-use crate::readers::sets::{I, ILC, ILTC, L, NONE};
+use crate::readers::read::Read::{self, Declined, End, Taken};
+use crate::readers::sets::{I, ILC, ILTC, L, NONE, T};
 use crate::readers::words::{compiled_for_integer, with_integer_flags};
 
 struct Written {
@@ -16,8 +17,9 @@ struct Written {
 }
 
 pub fn run(report: &mut Report) {
-    let mut group = Group::new("readers, written zero skips and blocks");
-    for Written { case, call, answer } in zero_skips().into_iter().chain(blocks()) {
+    let mut group = Group::new("readers, written zero skips, blocks and reads");
+    let written = zero_skips().into_iter().chain(blocks()).chain(reads());
+    for Written { case, call, answer } in written {
         let rust = compiled_for_integer(case.word.reader_set(INTEGER));
         let input = format_args!("{call}, {case}");
         let written = ("written", answer);
@@ -59,6 +61,23 @@ fn blocks() -> [Written; 7] {
     ]
 }
 
+fn reads() -> [Written; 9] {
+    [
+        read(b"", NONE, 0, b'0', End, 0),
+        read(b"12", NONE, 0, b'1', Taken(b'1'), 1),
+        // An optional sign that is not there.
+        read(b"12", NONE, 0, b'-', Declined(b'1'), 0),
+        read(b"1", NONE, 1, b'-', End, 1),
+        // The passing stays in each of the three ways.
+        read(b"1_2", I, 1, b'2', Taken(b'2'), 3),
+        read(b"1_2", I, 1, b'0', Declined(b'2'), 2),
+        read(b"1_", T, 1, b'0', End, 2),
+        // What is not passed can be read, or is the byte seen.
+        read(b"1_", I, 1, b'_', Taken(b'_'), 2),
+        read(b"1_", I, 1, b'0', Declined(b'_'), 1),
+    ]
+}
+
 /// From a fresh state: so many zeros, and where the cursor is then.
 fn zero_skip(buffer: &'static [u8], set: u32, zeros: usize, cursor: usize) -> Written {
     let case = Case::fresh(with_integer_flags(set), buffer, INTEGER);
@@ -95,5 +114,30 @@ fn block(
         case,
         call: Call::TakeN(n),
         answer: Answer::new(case.state, Found::block(buffer, part), taken, after),
+    }
+}
+
+/// Behind so many digits that were counted: how the read ends, and where the
+/// cursor is then.
+fn read(
+    buffer: &'static [u8],
+    set: u32,
+    digits: usize,
+    value: u8,
+    read: Read,
+    cursor: usize,
+) -> Written {
+    let mut case = Case::fresh(with_integer_flags(set), buffer, INTEGER);
+    let counts = [digits, 0, 0];
+    case.state = State {
+        cursor: digits,
+        counts,
+    };
+    let after = State { cursor, counts };
+    let taken = usize::from(read.taken().is_some());
+    Written {
+        case,
+        call: Call::ReadIfValueCased(value),
+        answer: Answer::new(case.state, Found::read(read), taken, after),
     }
 }

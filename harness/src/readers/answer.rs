@@ -3,6 +3,7 @@
 use std::fmt;
 
 use super::call::State;
+use super::read::Read;
 
 /// What a place holds that no call has written to.
 pub const UNTOUCHED: u64 = 0xA5A5_A5A5_A5A5_A5A5;
@@ -23,10 +24,11 @@ pub struct Answer {
 /// What a call has found, as the first two numbers of its answer tell it.
 #[derive(Clone, Copy, PartialEq, Eq)]
 pub struct Found {
-    /// 1 where there is a byte, a block or a value, else 0. A zero skip has none.
-    pub is_there: u64,
-    /// The byte, where the block begins in the buffer, how many zeros there were,
-    /// or the value of a digit run.
+    /// 1 where there is a byte, a block or a value, 2 where a read declined the
+    /// byte, else 0. A zero skip has none.
+    pub how: u64,
+    /// The byte, also a declined one, where the block begins in the buffer, how
+    /// many zeros there were, or the value of a digit run.
     pub what: u64,
 }
 
@@ -59,7 +61,7 @@ impl Answer {
 
 impl Found {
     pub const NOTHING: Self = Self {
-        is_there: 0,
+        how: 0,
         what: UNTOUCHED,
     };
 
@@ -67,9 +69,20 @@ impl Found {
         byte.map_or(Self::NOTHING, |byte| Self::there(byte.into()))
     }
 
+    pub fn read(read: Read) -> Self {
+        match read {
+            Read::End => Self::NOTHING,
+            Read::Taken(byte) => Self::there(byte.into()),
+            Read::Declined(byte) => Self {
+                how: 2,
+                what: byte.into(),
+            },
+        }
+    }
+
     pub fn zeros(zeros: usize) -> Self {
         Self {
-            is_there: 0,
+            how: 0,
             what: zeros as u64,
         }
     }
@@ -83,7 +96,16 @@ impl Found {
 
     /// A byte, the place of a block or a value.
     pub fn there(what: u64) -> Self {
-        Self { is_there: 1, what }
+        Self { how: 1, what }
+    }
+
+    /// Whether there is a byte, a block or a value, and no declined byte.
+    pub fn is_there(self) -> bool {
+        self.how == 1
+    }
+
+    pub fn is_declined(self) -> bool {
+        self.how == 2
     }
 }
 
@@ -104,8 +126,8 @@ impl fmt::Display for Answer {
 impl fmt::Display for Found {
     fn fmt(&self, out: &mut fmt::Formatter<'_>) -> fmt::Result {
         match self.what {
-            UNTOUCHED => write!(out, "found {} -", self.is_there),
-            what => write!(out, "found {} 0x{what:02X}", self.is_there),
+            UNTOUCHED => write!(out, "found {} -", self.how),
+            what => write!(out, "found {} 0x{what:02X}", self.how),
         }
     }
 }

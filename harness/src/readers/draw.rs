@@ -140,7 +140,7 @@ pub fn block(rng: &mut Rng, buffer: &[u8]) -> usize {
 }
 
 /// A set with half, a quarter or three quarters of all bytes.
-fn set(rng: &mut Rng) -> ByteSet {
+pub fn set(rng: &mut Rng) -> ByteSet {
     let density = rng.below(3);
     ByteSet([(); 4].map(|()| match density {
         0 => rng.bits(),

@@ -77,10 +77,10 @@ pub fn plain_call(case: &Case, call: Call) -> Answer {
 }
 
 fn answered(number: u32, answer: RawAnswer, state: State) -> Answer {
-    let [is_there, what, taken, passed] = answer;
+    let [how, what, taken, passed] = answer;
     Answer {
         number,
-        found: Found { is_there, what },
+        found: Found { how, what },
         taken: taken as usize,
         passed: passed as usize,
         state,

@@ -4,6 +4,7 @@
 
 use super::call::{Case, SPECIAL};
 use super::column::{Column, Sums};
+use super::read::Read;
 use super::sets::{C, NONE};
 use super::table::View;
 
@@ -30,7 +31,7 @@ pub fn next_all(case: &mut Case) -> usize {
 }
 
 #[inline(always)]
-pub fn read_if_value_cased(case: &mut Case, value: u8) -> Option<u8> {
+pub fn read_if_value_cased(case: &mut Case, value: u8) -> Read {
     with_port(case, |port| port.read(value))
 }
 
@@ -39,7 +40,7 @@ pub fn read_if_value_cased(case: &mut Case, value: u8) -> Option<u8> {
 pub fn skip_zeros(case: &mut Case) -> usize {
     with_port(case, |port| {
         let mut zeros = 0;
-        while port.read(b'0').is_some() {
+        while let Read::Taken(_) = port.read(b'0') {
             port.count += 1;
             zeros += 1;
         }
@@ -143,10 +144,15 @@ impl<'a> Port<'a> {
         }
     }
 
-    fn read(&mut self, value: u8) -> Option<u8> {
-        let byte = self.peek().filter(|&byte| byte == value)?;
-        self.cursor += 1;
-        Some(byte)
+    fn read(&mut self, value: u8) -> Read {
+        match self.peek() {
+            None => Read::End,
+            Some(byte) if byte == value => {
+                self.cursor += 1;
+                Read::Taken(byte)
+            }
+            Some(byte) => Read::Declined(byte),
+        }
     }
 
     fn peek(&mut self) -> Option<u8> {

@@ -10,6 +10,7 @@ use lexical_util_format::iterator::{Bytes, DigitsIter, Iter};
 
 use super::answer::{Answer, Found};
 use super::call::{Call, Case, State, Step, COUNTED, EXPONENT, FRACTION, INTEGER, SPECIAL};
+use super::read::Read;
 use super::refusal;
 use super::run::Run;
 use super::sets::NONE;
@@ -84,6 +85,7 @@ impl<'a, const FORMAT: u128> Walk<'a, FORMAT> {
     fn call(&mut self, Step { reader, call }: Step) -> Answer {
         let (found, taken) = match call {
             Call::TakeN(n) => self.take_n(reader, n),
+            Call::ReadIf(_) | Call::ReadIfValueCased(_) => self.read(reader, call),
             Call::DigitRun => return self.digit_run(reader),
             _ => with_reader!(self.bytes, reader, |iter| ask(iter, call)),
         };
@@ -92,6 +94,15 @@ impl<'a, const FORMAT: u128> Walk<'a, FORMAT> {
             _ => 0,
         };
         self.answer(reader, found, taken, zeros)
+    }
+
+    /// A read, and a peek from the same state beside it.
+    fn read(&mut self, reader: u8, call: Call) -> (Found, usize) {
+        let mut same = self.bytes.clone();
+        let peeked = with_reader!(same, reader, |iter| peek(iter));
+        let taken = with_reader!(self.bytes, reader, |iter| read(iter, call));
+        let found = Found::read(Read::of_crate(taken, peeked));
+        (found, usize::from(taken.is_some()))
     }
 
     /// A run that is refused leaves all as it was, its passing too.
@@ -174,21 +185,19 @@ impl<'a, const FORMAT: u128> Walk<'a, FORMAT> {
 
 /// What the call finds, and how many bytes it took.
 fn ask<'a>(iter: &mut impl DigitsIter<'a>, call: Call) -> (Found, usize) {
-    let byte = match call {
-        Call::Peek => return (Found::byte(peek(iter)), 0),
-        Call::NextAll => return (Found::NOTHING, next_all(iter)),
+    match call {
+        Call::Peek => (Found::byte(peek(iter)), 0),
+        Call::Next => {
+            let byte = next(iter);
+            (Found::byte(byte), usize::from(byte.is_some()))
+        }
+        Call::NextAll => (Found::NOTHING, next_all(iter)),
         Call::SkipZeros => {
             let zeros = iter.skip_zeros();
-            return (Found::zeros(zeros), zeros);
+            (Found::zeros(zeros), zeros)
         }
-        Call::Next => next(iter),
-        Call::ReadIf(set) => iter.read_if(|byte| set.contains(byte)),
-        Call::ReadIfValueCased(value) => read(iter, value),
-        Call::TakeN(_) | Call::DigitRun => {
-            panic!("not a call that all readers of the crate have")
-        }
-    };
-    (Found::byte(byte), usize::from(byte.is_some()))
+        _ => panic!("a call with a function of its own"),
+    }
 }
 
 fn next_all<'a>(iter: &mut impl DigitsIter<'a>) -> usize {
@@ -221,6 +230,10 @@ fn next<'a>(iter: &mut impl DigitsIter<'a>) -> Option<u8> {
 
 /// Never inlined, for the same reason.
 #[inline(never)]
-fn read<'a>(iter: &mut impl DigitsIter<'a>, value: u8) -> Option<u8> {
-    iter.read_if_value_cased(value)
+fn read<'a>(iter: &mut impl DigitsIter<'a>, call: Call) -> Option<u8> {
+    match call {
+        Call::ReadIf(set) => iter.read_if(|byte| set.contains(byte)),
+        Call::ReadIfValueCased(value) => iter.read_if_value_cased(value),
+        _ => panic!("not a read"),
+    }
 }

@@ -12,7 +12,7 @@
 //! and then its bytes, the last byte lowest; for the value of a digit run that
 //! whole number, and 0 where the run is refused. A digit run itself has the lowest
 //! byte of its value in place of a byte; where it is refused, its answer begins with
-//! 2 and the refusal's number.
+//! 2 and the refusal's number. A read that is declined begins with 3 and the byte seen.
 //!
 //! `buffer` has its first byte lowest.
 
@@ -32,8 +32,12 @@ const LONGEST: usize = 8;
 const TELLING: usize = 48;
 const OTHERS: usize = 32;
 
+/// Lines for each way of a read to end, with passing and without, and each reader.
+const OF_A_WAY: usize = 8;
+
 /// Where a byte would be there or not.
 const REFUSED: u64 = 2;
+const DECLINED: u64 = 3;
 
 #[derive(Clone, Copy)]
 enum Kind {
@@ -64,16 +68,35 @@ pub fn write(out: &mut impl Write, seed: u64) -> io::Result<()> {
     let mut rng = Rng::new(seed, "record readers");
     for kind in KINDS {
         for &reader in kind.readers() {
-            write_lines(out, &mut rng, kind, reader)?;
+            let is_other = |answer: &Answer| usize::from(!kind.is_telling(answer));
+            write_lines(out, &mut rng, kind, reader, [TELLING, OTHERS], is_other)?;
         }
+    }
+    write_ways(out, seed)
+}
+
+/// Reads by the way that they end. They are drawn apart from the calls above, which
+/// leaves those as they are.
+fn write_ways(out: &mut impl Write, seed: u64) -> io::Result<()> {
+    let mut rng = Rng::new(seed, "record reads");
+    let kind = Kind::ReadIfValueCased;
+    for &reader in kind.readers() {
+        let way = |answer: &Answer| 2 * answer.found.how as usize + answer.passed.min(1);
+        write_lines(out, &mut rng, kind, reader, [OF_A_WAY; 6], way)?;
     }
     Ok(())
 }
 
-fn write_lines(out: &mut impl Write, rng: &mut Rng, kind: Kind, reader: u8) -> io::Result<()> {
-    let mut telling = TELLING;
-    let mut others = OTHERS;
-    while telling + others > 0 {
+/// As many lines of each class of answers as are wanted.
+fn write_lines<const CLASSES: usize>(
+    out: &mut impl Write,
+    rng: &mut Rng,
+    kind: Kind,
+    reader: u8,
+    mut wanted: [usize; CLASSES],
+    class: impl Fn(&Answer) -> usize,
+) -> io::Result<()> {
+    while wanted.iter().any(|&lines| lines > 0) {
         let rust = rng.pick(compiled());
         let word = rust.word();
         let buffer = draw::buffer(rng, word, LONGEST);
@@ -89,13 +112,9 @@ fn write_lines(out: &mut impl Write, rng: &mut Rng, kind: Kind, reader: u8) -> i
             continue;
         }
         let answer = rust.call(&case, call);
-        let wanted = if kind.is_telling(&answer) {
-            &mut telling
-        } else {
-            &mut others
-        };
-        if *wanted > 0 {
-            *wanted -= 1;
+        let lines = &mut wanted[class(&answer)];
+        if *lines > 0 {
+            *lines -= 1;
             write_line(out, kind, value, &case, &answer)?;
         }
     }
@@ -148,13 +167,14 @@ impl Kind {
         let found = answer.found;
         match self {
             Self::SkipZeros => packed_answer(answer, 1, found.what),
-            Self::TakeN => packed_answer(answer, found.is_there, 0),
-            Self::TakeNPart if found.is_there == 0 => packed_part(&[]),
+            Self::TakeN => packed_answer(answer, found.how, 0),
+            Self::TakeNPart if !found.is_there() => packed_part(&[]),
             Self::TakeNPart => packed_part(&case.buffer[found.what as usize..][..answer.taken]),
-            Self::DigitRunValue if found.is_there == 0 => 0,
+            Self::DigitRunValue if !found.is_there() => 0,
             Self::DigitRunValue => found.what,
             _ if answer.number != ACCEPTED => packed_answer(answer, REFUSED, answer.number.into()),
-            _ if found.is_there == 0 => packed_answer(answer, 0, 0),
+            _ if found.is_declined() => packed_answer(answer, DECLINED, found.what),
+            _ if !found.is_there() => packed_answer(answer, 0, 0),
             _ => packed_answer(answer, 1, found.what & 0xFF),
         }
     }

@@ -2,7 +2,7 @@
 //! the crate for every answer in it.
 
 use super::records::{self, Record, BODIES, LONGEST_TEXT, OPEN, TEXT};
-use crate::readers::answer::{Answer, Found};
+use crate::readers::answer::Answer;
 use crate::readers::call::{Call, Step, SPECIAL};
 use crate::readers::words::compiled;
 use crate::word::{oracle, Word};
@@ -134,17 +134,17 @@ fn call(kind: u8, arguments: &[u8]) -> Call {
 }
 
 /// The line of an answer. A block that was given has no byte to show; one that
-/// was not has nothing to show at all.
+/// was not has nothing to show at all. A declined read is shown as the end is.
 pub fn line(call: Call, answer: &Answer) -> String {
     let kind = records::kind(call);
-    let Found { is_there, what } = answer.found;
+    let found = answer.found;
     let shown = match call {
         _ if answer.number != 0 => return format!("{kind} !{}\n", answer.number),
-        Call::SkipZeros => what.to_string(),
-        Call::TakeN(_) if is_there == 0 => return format!("{kind} none\n"),
+        Call::SkipZeros => found.what.to_string(),
+        Call::TakeN(_) if !found.is_there() => return format!("{kind} none\n"),
         Call::TakeN(_) => "-".to_owned(),
-        _ if is_there == 0 => "-".to_owned(),
-        _ => what.to_string(),
+        _ if !found.is_there() => "-".to_owned(),
+        _ => found.what.to_string(),
     };
     let (cursor, taken, passed) = (answer.state.cursor, answer.taken, answer.passed);
     format!("{kind} {shown} {cursor} {taken} {passed}\n")

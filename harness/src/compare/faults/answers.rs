@@ -5,12 +5,13 @@ use super::{Fault, Shown};
 use crate::readers::answer::{Answer, Found};
 use crate::readers::call::{Call, Case, EXPONENT, SPECIAL};
 use crate::readers::library::call;
+use crate::readers::read::Read;
 use crate::readers::refusal::ACCEPTED;
 use crate::readers::sets::{C, IL, ILC, ILTC, L, NONE};
 use crate::readers::table::View;
 use crate::word::{reader_flags, Field, Word, SPECIAL_SEPARATOR};
 
-pub const FAULTS: [Fault; 17] = [
+pub const FAULTS: [Fault; 20] = [
     Fault {
         name: "later ILC taken for later IC",
         asked: later_ilc_as_ic,
@@ -154,6 +155,30 @@ pub const FAULTS: [Fault; 17] = [
         asked: byte_told_without_one,
         shown: Shown::Call {
             bytes: 0,
+            reason: "no list of calls",
+        },
+    },
+    Fault {
+        name: "a declined read is told as the end",
+        asked: declined_told_as_the_end,
+        shown: Shown::Call {
+            bytes: 1,
+            reason: "no list of calls",
+        },
+    },
+    Fault {
+        name: "the end is told as a declined read",
+        asked: end_told_as_declined,
+        shown: Shown::Call {
+            bytes: 0,
+            reason: "a script has no read_if",
+        },
+    },
+    Fault {
+        name: "the byte that a declined read saw is told as 0",
+        asked: byte_seen_told_as_0,
+        shown: Shown::Call {
+            bytes: 1,
             reason: "no list of calls",
         },
     },
@@ -346,6 +371,31 @@ fn forgets_digits_never_read(case: &Case, what: Call) -> Answer {
 fn byte_told_without_one(case: &Case, what: Call) -> Answer {
     let mut answer = call(case, what);
     if matches!(what, Call::Peek) && answer.found == Found::NOTHING {
+        answer.found.what = 0;
+    }
+    answer
+}
+
+fn declined_told_as_the_end(case: &Case, what: Call) -> Answer {
+    let mut answer = call(case, what);
+    if matches!(what, Call::ReadIfValueCased(_)) && answer.found.is_declined() {
+        answer.found = Found::NOTHING;
+    }
+    answer
+}
+
+fn end_told_as_declined(case: &Case, what: Call) -> Answer {
+    let mut answer = call(case, what);
+    let accepted = answer.number == ACCEPTED;
+    if accepted && matches!(what, Call::ReadIf(_)) && answer.found == Found::NOTHING {
+        answer.found = Found::read(Read::Declined(0));
+    }
+    answer
+}
+
+fn byte_seen_told_as_0(case: &Case, what: Call) -> Answer {
+    let mut answer = call(case, what);
+    if matches!(what, Call::ReadIfValueCased(_)) && answer.found.is_declined() {
         answer.found.what = 0;
     }
     answer

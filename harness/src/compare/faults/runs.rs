@@ -88,7 +88,7 @@ impl Steps {
 fn byte_of(case: &mut Case, what: Call) -> Option<u8> {
     let answer = call(case, what);
     case.state = answer.state;
-    (answer.found.is_there == 1).then_some(answer.found.what as u8)
+    answer.found.is_there().then_some(answer.found.what as u8)
 }
 
 /// Of any digits, as much of it as 64 bits hold.

@@ -6,7 +6,8 @@ use crate::readers::call::{Case, State};
 /// kept as given, the edition.
 pub type RawState = [u64; 8];
 
-/// Whether there is a byte, a block or a value, what was found, taken, passed.
+/// Whether there is a byte, a block or a value, or how a read went; what was
+/// found, taken, passed.
 pub type RawAnswer = [u64; 4];
 
 /// The only edition that there is.

@@ -2,7 +2,7 @@
 
 use lexical_util_format::iterator::DigitsIter;
 
-use super::{read, with_reader, Walk};
+use super::{with_reader, Walk};
 use crate::readers::answer::{Answer, Found};
 use crate::readers::call::{Call, Step, EXPONENT, FRACTION, INTEGER, SPECIAL};
 use crate::readers::refusal::ACCEPTED;
@@ -25,14 +25,22 @@ impl<const FORMAT: u128> Walk<'_, FORMAT> {
     fn zero_reads(&mut self, reader: u8) -> Vec<Part> {
         let mut reads = Vec::new();
         loop {
-            let byte = with_reader!(self.bytes, reader, |iter| read_zero(iter));
-            let taken = usize::from(byte.is_some());
-            let answer = self.answer(reader, Found::byte(byte), taken, taken);
+            let (found, taken) = self.read_zero(reader);
+            let answer = self.answer(reader, found, taken, taken);
             reads.push((Call::SkipZeros, answer));
-            if byte.is_none() {
+            if taken == 0 {
                 return reads;
             }
         }
+    }
+
+    /// One turn of the loop in the crate's `skip_zeros`.
+    fn read_zero(&mut self, reader: u8) -> (Found, usize) {
+        let (found, taken) = self.read(reader, Call::ReadIfValueCased(b'0'));
+        if taken > 0 {
+            with_reader!(self.bytes, reader, |iter| iter.increment_count());
+        }
+        (found, taken)
     }
 
     /// What a digit run consists of, each a call of its own.
@@ -53,15 +61,6 @@ impl<const FORMAT: u128> Walk<'_, FORMAT> {
     }
 
     fn is_digit(&mut self, found: Found) -> bool {
-        found.is_there == 1 && self.bytes.integer_iter().is_digit(found.what as u8)
+        found.is_there() && self.bytes.integer_iter().is_digit(found.what as u8)
     }
-}
-
-/// One turn of the loop in the crate's `skip_zeros`.
-fn read_zero<'a>(iter: &mut impl DigitsIter<'a>) -> Option<u8> {
-    let byte = read(iter, b'0');
-    if byte.is_some() {
-        iter.increment_count();
-    }
-    byte
 }
