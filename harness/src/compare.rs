@@ -22,6 +22,7 @@ mod outcomes;
 mod plain;
 mod ported;
 mod random;
+mod reads;
 mod refusals;
 mod run_ends;
 mod runs;
@@ -36,7 +37,7 @@ pub use long::GROUPS as LONG_GROUPS;
 use crate::group::Groups;
 
 /// What the gate runs: words, then reader calls, the longest of these first.
-pub const GROUPS: [Groups; 22] = [
+pub const GROUPS: [Groups; 23] = [
     |report, _| named_words::run(report),
     |report, _| digits::run(report),
     checks::run,
@@ -51,6 +52,7 @@ pub const GROUPS: [Groups; 22] = [
     |report, seed| columns::run(report, seed, columns::COLUMNS),
     |report, seed| digit_runs::run(report, seed, digit_runs::CASES),
     run_ends::run,
+    reads::run,
     |report, _| examples::run(report),
     |report, _| written::run(report),
     |report, _| is_digit::run(report),
