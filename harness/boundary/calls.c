@@ -39,20 +39,22 @@ static void check_moved(const struct input *in) {
                 "another reader's count stays");
 }
 
-/* Whether a byte was found. It is the buffer's, behind the separators that were passed first; without one its word is left. */
-static bool has_byte(const struct input *in) {
-    const uint64_t *answer = in->lent.answer;
-    uint64_t cursor = in->state[PAWHETINO_STATE_CURSOR];
+/* A byte that is told is the buffer's, behind the separators that were passed first; where none is, its word is left. */
+static void check_byte(const struct input *in, bool has) {
+    uint64_t byte = in->lent.answer[PAWHETINO_ANSWER_BYTE], cursor = in->state[PAWHETINO_STATE_CURSOR];
     for (uint64_t i = 0; i < passed(in); i++)
         promise(in, separator(in) != 0 && in->s[cursor + i] == separator(in), "only separators are passed");
-    promise(in, answer[PAWHETINO_ANSWER_HAS] <= 1, "there is a byte or there is none");
-    if (answer[PAWHETINO_ANSWER_HAS] == 0) {
-        promise(in, answer[PAWHETINO_ANSWER_BYTE] == UNTOUCHED, "without a byte its word stays as it was");
-        return false;
-    }
+    promise(in, has || byte == UNTOUCHED, "without a byte its word stays as it was");
     uint64_t place = cursor + passed(in);
-    promise(in, place < in->len && answer[PAWHETINO_ANSWER_BYTE] == in->s[place], "the byte is the buffer's");
-    return true;
+    promise(in, !has || (place < in->len && byte == in->s[place]), "the byte is the buffer's");
+}
+
+/* Whether a byte was found. */
+static bool has_byte(const struct input *in) {
+    uint64_t has = in->lent.answer[PAWHETINO_ANSWER_HAS];
+    promise(in, has <= 1, "there is a byte or there is none");
+    check_byte(in, has == 1);
+    return has == 1;
 }
 
 static void check_peek(const struct functions *f, const struct input *in) {
@@ -76,6 +78,25 @@ static void check_next(const struct functions *f, const struct input *in) {
     promise(in, counted(in) == counts, "a reader with any flag counts a digit");
 }
 
+/* A read is a peek from the same state, but that it may take the byte. */
+static void check_by_peek(const struct functions *f, const struct input *in) {
+    const uint64_t *answer = in->lent.answer;
+    uint64_t state[8], peeked[4] = {UNTOUCHED, UNTOUCHED, UNTOUCHED, UNTOUCHED};
+    memcpy(state, in->state, sizeof state);
+    promise(in, f->peek(in->s, in->len, in->reader, state, peeked) == 0, "where a read is accepted, a peek is");
+    promise(in, (answer[PAWHETINO_ANSWER_READ] == PAWHETINO_READ_END) == (peeked[PAWHETINO_ANSWER_HAS] == 0),
+            "the end is where a peek has no byte");
+    promise(in, passed(in) == peeked[PAWHETINO_ANSWER_PASSED], "a read passes what a peek passes");
+    promise(in, answer[PAWHETINO_ANSWER_BYTE] == peeked[PAWHETINO_ANSWER_BYTE], "a read meets the byte that a peek finds");
+    state[PAWHETINO_STATE_CURSOR] += taken(in);
+    promise(in, memcmp(in->lent.state, state, sizeof state) == 0, "a read leaves what a peek leaves, but for the byte taken");
+}
+
+static bool is_asked_for(const struct input *in, bool by_set) {
+    uint8_t byte = (uint8_t)in->lent.answer[PAWHETINO_ANSWER_BYTE];
+    return by_set ? in->set[byte / 64] >> (byte % 64) & 1 : byte == in->value;
+}
+
 /* Both conditional reads: by the set, or by one byte. */
 static void check_read(const struct functions *f, const struct input *in, bool by_set) {
     running = by_set ? "pawhetino_read_if" : "pawhetino_read_if_value_cased";
@@ -84,11 +105,14 @@ static void check_read(const struct functions *f, const struct input *in, bool b
                              : f->read_if_value_cased(GIVEN, in->lent.answer, in->value);
     if (!accepted(in, number, due_of_rules(in, true))) return;
     check_moved(in);
-    bool has = has_byte(in);
-    uint8_t byte = (uint8_t)in->lent.answer[PAWHETINO_ANSWER_BYTE];
-    bool wanted = by_set ? in->set[byte / 64] >> (byte % 64) & 1 : byte == in->value;
-    promise(in, taken(in) == has && counted(in) == 0, "a byte that is read is taken, and not counted");
-    promise(in, !has || wanted, "a byte that is read is one that was asked for");
+    uint64_t how = in->lent.answer[PAWHETINO_ANSWER_READ];
+    bool ended = how == PAWHETINO_READ_END, takes = how == PAWHETINO_READ_TAKEN;
+    promise(in, how <= PAWHETINO_READ_DECLINED, "a read ends in one of three ways");
+    check_byte(in, !ended);
+    promise(in, !ended || in->lent.state[PAWHETINO_STATE_CURSOR] == in->len, "at the end nothing is left");
+    promise(in, taken(in) == takes && counted(in) == 0, "a byte is taken where the read says so, and not counted");
+    promise(in, ended || takes == is_asked_for(in, by_set), "taken is a byte that was asked for, declined another");
+    check_by_peek(f, in);
 }
 
 static void check_next_all(const struct functions *f, const struct input *in) {

@@ -138,6 +138,27 @@ static bool runs_are_told(void) {
     return true;
 }
 
+/* A read of `1` on each way, the word of a byte left at the end. */
+static bool reads_are_told(void) {
+    static const struct {
+        const char *cell;
+        uint64_t how, byte, taken;
+    } reads[] = {
+        {"", PAWHETINO_READ_END, 7, 0},
+        {"1", PAWHETINO_READ_TAKEN, '1', 1},
+        {"2", PAWHETINO_READ_DECLINED, '2', 0},
+    };
+    for (size_t i = 0; i < sizeof reads / sizeof *reads; i++) {
+        uint64_t state[8] = {0, DECIMAL}, answer[4] = {7, 7, 7, 7};
+        const uint8_t *cell = (const uint8_t *)reads[i].cell;
+        uint32_t number = pawhetino_read_if_value_cased(cell, strlen(reads[i].cell), PAWHETINO_INTEGER, state, answer, '1');
+        bool holds = number == 0 && answer[PAWHETINO_ANSWER_READ] == reads[i].how &&
+                     answer[PAWHETINO_ANSWER_BYTE] == reads[i].byte && answer[PAWHETINO_ANSWER_TAKEN] == reads[i].taken;
+        if (!told(holds, "how a read ends", reads[i].how)) return false;
+    }
+    return true;
+}
+
 /* Each number has words of its own, and all others share theirs. */
 static bool numbers_have_words(void) {
     const uint32_t other = PAWHETINO_VALUE_ABOVE_64_BITS + 1;
@@ -149,5 +170,5 @@ static bool numbers_have_words(void) {
 
 bool constants_hold(void) {
     return words_are_refused() && plain_words_are_told() && flags_let_pass() && states_have_their_places() &&
-           calls_are_refused() && runs_are_told() && numbers_have_words();
+           calls_are_refused() && runs_are_told() && reads_are_told() && numbers_have_words();
 }

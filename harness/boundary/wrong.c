@@ -8,6 +8,9 @@
 #define READ(name) \
     static uint32_t name(const uint8_t *s, size_t len, uint8_t reader, uint64_t *state, uint64_t *answer, const uint64_t *set)
 
+#define READ_VALUE(name) \
+    static uint32_t name(const uint8_t *s, size_t len, uint8_t reader, uint64_t *state, uint64_t *answer, uint8_t value)
+
 #define BLOCK(name) \
     static uint32_t name(const uint8_t *s, size_t len, uint8_t reader, uint64_t *state, uint64_t *answer, size_t n)
 
@@ -313,6 +316,69 @@ CALL(tells_the_bytes_peeked) {
     return number;
 }
 
+/* Whether an accepted read ended in this way. */
+static bool has_ended(uint32_t number, const uint64_t *answer, uint64_t how) {
+    return number == 0 && answer[PAWHETINO_ANSWER_READ] == how;
+}
+
+READ(declines_at_the_end) {
+    uint32_t number = pawhetino_read_if(ARGUMENTS, set);
+    if (!has_ended(number, answer, PAWHETINO_READ_END)) return number;
+    answer[PAWHETINO_ANSWER_READ] = PAWHETINO_READ_DECLINED, answer[PAWHETINO_ANSWER_BYTE] = 0;
+    return number;
+}
+
+READ_VALUE(ends_where_it_declines) {
+    uint64_t before = answer[PAWHETINO_ANSWER_BYTE];
+    uint32_t number = pawhetino_read_if_value_cased(ARGUMENTS, value);
+    if (!has_ended(number, answer, PAWHETINO_READ_DECLINED)) return number;
+    answer[PAWHETINO_ANSWER_READ] = PAWHETINO_READ_END, answer[PAWHETINO_ANSWER_BYTE] = before;
+    return number;
+}
+
+/* As where a read passes separators up to the end that its peek keeps. */
+READ(ends_before_its_peek) {
+    uint64_t before = answer[PAWHETINO_ANSWER_BYTE], *cursor = &state[PAWHETINO_STATE_CURSOR], end = *cursor;
+    uint32_t number = pawhetino_read_if(ARGUMENTS, set);
+    if (!has_ended(number, answer, PAWHETINO_READ_DECLINED)) return number;
+    for (end = *cursor; end < len && pawhetino_is_digit_separator(state[0], state[1], s[end]);) end++;
+    if (end < len) return number;
+    answer[PAWHETINO_ANSWER_READ] = PAWHETINO_READ_END, answer[PAWHETINO_ANSWER_BYTE] = before;
+    answer[PAWHETINO_ANSWER_PASSED] += end - *cursor, *cursor = end;
+    return number;
+}
+
+READ_VALUE(sees_0) {
+    uint32_t number = pawhetino_read_if_value_cased(ARGUMENTS, value);
+    if (has_ended(number, answer, PAWHETINO_READ_DECLINED)) answer[PAWHETINO_ANSWER_BYTE] = 0;
+    return number;
+}
+
+/* The separator is told then, unless it was asked for. */
+READ_VALUE(gives_the_passing_back) {
+    uint32_t number = pawhetino_read_if_value_cased(ARGUMENTS, value);
+    if (!has_ended(number, answer, PAWHETINO_READ_DECLINED) || answer[PAWHETINO_ANSWER_PASSED] == 0) return number;
+    uint64_t cursor = state[PAWHETINO_STATE_CURSOR] - answer[PAWHETINO_ANSWER_PASSED];
+    if (s[cursor] == value) return number;
+    state[PAWHETINO_STATE_CURSOR] = cursor, answer[PAWHETINO_ANSWER_BYTE] = s[cursor], answer[PAWHETINO_ANSWER_PASSED] = 0;
+    return number;
+}
+
+READ(takes_where_it_declines) {
+    uint32_t number = pawhetino_read_if(ARGUMENTS, set);
+    if (has_ended(number, answer, PAWHETINO_READ_DECLINED))
+        state[PAWHETINO_STATE_CURSOR] += 1, answer[PAWHETINO_ANSWER_TAKEN] = 1;
+    return number;
+}
+
+READ(takes_any_byte) {
+    uint32_t number = pawhetino_read_if(ARGUMENTS, set);
+    if (!has_ended(number, answer, PAWHETINO_READ_DECLINED)) return number;
+    answer[PAWHETINO_ANSWER_READ] = PAWHETINO_READ_TAKEN;
+    state[PAWHETINO_STATE_CURSOR] += 1, answer[PAWHETINO_ANSWER_TAKEN] = 1;
+    return number;
+}
+
 BLOCK(takes_a_block_too_long) {
     uint32_t number = pawhetino_take_n(ARGUMENTS, n);
     if (number == 0 && answer[PAWHETINO_ANSWER_HAS] == 1 && n >= len) answer[PAWHETINO_ANSWER_TAKEN] = n;
@@ -444,6 +510,13 @@ const struct fault faults[] = {
     {"a refused run's value", {.digit_run = tells_a_value_though_refused}, "run: broken: a refused call leaves word 1"},
     {"a run's value and one", {.digit_run = tells_one_more}, "broken: the value of the bytes taken"},
     {"a run's bytes peeked", {.digit_run = tells_the_bytes_peeked}, "broken: the value of the bytes taken"},
+    {"the end declined", {.read_if = declines_at_the_end}, "pawhetino_read_if: broken: the byte is the buffer's"},
+    {"a declined read's end", {.read_if_value_cased = ends_where_it_declines}, "cased: broken: at the end nothing is left"},
+    {"an end that its peek has not", {.read_if = ends_before_its_peek}, "broken: the end is where a peek has no byte"},
+    {"the byte seen told as 0", {.read_if_value_cased = sees_0}, "cased: broken: the byte is the buffer's"},
+    {"a declined read's passing", {.read_if_value_cased = gives_the_passing_back}, "broken: a read passes what a peek passes"},
+    {"a declined read that takes", {.read_if = takes_where_it_declines}, "broken: a byte is taken where the read says so"},
+    {"a byte that nobody asked for", {.read_if = takes_any_byte}, "broken: taken is a byte that was asked for"},
     {"a block too long", {.take_n = takes_a_block_too_long}, "pawhetino_take_n: broken: the cursor moves by"},
     {"a block's place", {.take_n = begins_a_block_at_0}, "pawhetino_take_n: broken: a block begins at the cursor"},
     {"a column's digit lost", {.next_all_column = loses_a_digit}, "broken: the sums are those of pawhetino_next_all"},
