@@ -1,7 +1,8 @@
-/* The library from C: a cell and its value, zeros and a block, a column of cells, a padded cell, and a word that is refused. Each
- * function returns whether something came out otherwise than it must. */
+/* The library from C: a cell and its value, an optional sign, zeros and a block, a column of cells, a padded cell, and a word that
+ * is refused. Each function returns whether something came out otherwise than it must. */
 #include <inttypes.h>
 #include <stdio.h>
+#include <string.h>
 
 #include "pawhetino.h"
 
@@ -36,8 +37,23 @@ static int read_value(struct pawhetino_word word) {
     return state[PAWHETINO_STATE_CURSOR] != sizeof cell || answer[PAWHETINO_ANSWER_VALUE] != 1204;
 }
 
-/* `00_12`: the integer reader skips the zeros, and its read that fails passes the separator; the fraction reader, which has no
- * flags in this word, takes what is left as a block. */
+/* An optional `-` at the start of a cell: taken, declined since another byte stands there, or the end of an empty cell. */
+static int read_sign(struct pawhetino_word word, const char *cell, uint64_t how) {
+    static const char *const words[] = {"the cell has ended", "a sign", "no sign but the byte"};
+    uint64_t state[8], answer[4];
+    uint32_t number = pawhetino_fresh(word.lo, word.hi, 0, state);
+    if (number == PAWHETINO_SUCCESS)
+        number = pawhetino_read_if_value_cased((const uint8_t *)cell, strlen(cell), PAWHETINO_INTEGER, state, answer, '-');
+    if (is_refused("a sign", number) || answer[PAWHETINO_ANSWER_READ] != how) return 1;
+    printf("\"%s\": %s", cell, words[how]);
+    if (how == PAWHETINO_READ_DECLINED) printf(" %c", (int)answer[PAWHETINO_ANSWER_BYTE]);
+    printf("\n");
+    return (how != PAWHETINO_READ_END && answer[PAWHETINO_ANSWER_BYTE] != (uint8_t)cell[0]) ||
+           state[PAWHETINO_STATE_CURSOR] != (how == PAWHETINO_READ_TAKEN);
+}
+
+/* `00_12`: the integer reader skips the zeros, and its read that declines the 1 passes the separator; the fraction reader, which
+ * has no flags in this word, takes what is left as a block. */
 static int skip_zeros_and_take_block(struct pawhetino_word word) {
     static const uint8_t cell[] = {'0', '0', '_', '1', '2'};
     uint64_t state[8], answer[4], zeros;
@@ -85,6 +101,7 @@ int main(void) {
     /* Separator `_` between the digits of the integer, radix 10. */
     struct pawhetino_word word = pawhetino_word_of('_', 10, PAWHETINO_INTEGER_INTERNAL);
     int wrong = read_cell(word) + read_value(word) + skip_zeros_and_take_block(word) + read_column(word);
-    wrong += find_run_end() + refuse_word();
+    wrong += read_sign(word, "-7", PAWHETINO_READ_TAKEN) + read_sign(word, "7", PAWHETINO_READ_DECLINED);
+    wrong += read_sign(word, "", PAWHETINO_READ_END) + find_run_end() + refuse_word();
     return wrong != 0;
 }
