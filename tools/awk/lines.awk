@@ -49,7 +49,7 @@ function explained(line,    field) {
 function found(kind, shown) {
     if (kind == 6) return shown == "-" ? "a block" : ""
     if (kind == 5) return shown == "-" ? "" : shown (shown == 1 ? " zero" : " zeros")
-    if (shown == "-") return kind == 4 ? "declined" : "the end"
+    if (shown == "-") return kind == 4 ? "declined or the end" : "the end"
     return shown > 255 ? "" : "byte " shown " " character(shown)
 }
 
