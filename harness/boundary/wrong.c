@@ -338,10 +338,11 @@ READ_VALUE(ends_where_it_declines) {
 
 /* As where a read passes separators up to the end that its peek keeps. */
 READ(ends_before_its_peek) {
-    uint64_t before = answer[PAWHETINO_ANSWER_BYTE], *cursor = &state[PAWHETINO_STATE_CURSOR], end = *cursor;
+    uint64_t before = answer[PAWHETINO_ANSWER_BYTE], *cursor = &state[PAWHETINO_STATE_CURSOR];
     uint32_t number = pawhetino_read_if(ARGUMENTS, set);
     if (!has_ended(number, answer, PAWHETINO_READ_DECLINED)) return number;
-    for (end = *cursor; end < len && pawhetino_is_digit_separator(state[0], state[1], s[end]);) end++;
+    uint64_t end = *cursor;
+    while (end < len && pawhetino_is_digit_separator(state[0], state[1], s[end])) end++;
     if (end < len) return number;
     answer[PAWHETINO_ANSWER_READ] = PAWHETINO_READ_END, answer[PAWHETINO_ANSWER_BYTE] = before;
     answer[PAWHETINO_ANSWER_PASSED] += end - *cursor, *cursor = end;
@@ -376,6 +377,14 @@ READ(takes_any_byte) {
     if (!has_ended(number, answer, PAWHETINO_READ_DECLINED)) return number;
     answer[PAWHETINO_ANSWER_READ] = PAWHETINO_READ_TAKEN;
     state[PAWHETINO_STATE_CURSOR] += 1, answer[PAWHETINO_ANSWER_TAKEN] = 1;
+    return number;
+}
+
+READ_VALUE(declines_what_was_asked_for) {
+    uint32_t number = pawhetino_read_if_value_cased(ARGUMENTS, value);
+    if (!has_ended(number, answer, PAWHETINO_READ_TAKEN)) return number;
+    answer[PAWHETINO_ANSWER_READ] = PAWHETINO_READ_DECLINED;
+    state[PAWHETINO_STATE_CURSOR] -= 1, answer[PAWHETINO_ANSWER_TAKEN] = 0;
     return number;
 }
 
@@ -517,6 +526,7 @@ const struct fault faults[] = {
     {"a declined read's passing", {.read_if_value_cased = gives_the_passing_back}, "broken: a read passes what a peek passes"},
     {"a declined read that takes", {.read_if = takes_where_it_declines}, "broken: a byte is taken where the read says so"},
     {"a byte that nobody asked for", {.read_if = takes_any_byte}, "broken: taken is a byte that was asked for"},
+    {"a wanted byte declined", {.read_if_value_cased = declines_what_was_asked_for}, "cased: broken: taken is a byte that was"},
     {"a block too long", {.take_n = takes_a_block_too_long}, "pawhetino_take_n: broken: the cursor moves by"},
     {"a block's place", {.take_n = begins_a_block_at_0}, "pawhetino_take_n: broken: a block begins at the cursor"},
     {"a column's digit lost", {.next_all_column = loses_a_digit}, "broken: the sums are those of pawhetino_next_all"},
