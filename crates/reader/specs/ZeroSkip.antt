@@ -29,7 +29,7 @@ raised r o none = o
 raised r o (some b) =
     record { refusal = o .refusal; byte = o .byte; taken = o .taken; passed = o .passed; state = countedBy (o .state) r }
 
--- one read of a zero skip
+-- one read of a zero skip; it fails where it is declined, and at the end
 unfoldable pub zeroReadOf : Reading → List ℕ → Reader → State → Outcome
 zeroReadOf m s r st = raised r (readIfOf m s st r isZero) (readIfOf m s st r isZero .byte)
 
