@@ -3,15 +3,14 @@
 //! in the set and declined where it is not. What the peek passed stays passed, and
 //! all else is the peek's too.
 
-use super::small::{alphabet, counts, for_each_buffer};
+use super::small::{alphabet, for_each_buffer, for_each_case};
 use crate::group::{Group, Report};
 use crate::readers::answer::{Answer, Found};
-use crate::readers::call::{ByteSet, Call, Case, State, READERS};
+use crate::readers::call::{ByteSet, Call, Case, READERS};
 use crate::readers::read::Read;
 use crate::readers::words::{callable, compiled};
 use crate::readers::{draw, library};
 use crate::rng::Rng;
-use crate::word::Word;
 
 /// One byte less than where the crate is asked too.
 const LONGEST: usize = 4;
@@ -25,7 +24,7 @@ pub fn run(report: &mut Report, seed: u64) {
         let word = rust.word();
         for reader in callable(word) {
             for_each_buffer(alphabet(word), LONGEST, &mut |buffer| {
-                reads.compare_states(word, buffer, reader);
+                for_each_case(word, buffer, reader, &mut |case| reads.compare(case));
             });
         }
     }
@@ -45,20 +44,6 @@ impl Reads {
             rng: Rng::new(seed, "reads by peeks"),
             by_peek: Group::new("reads, end, taken or declined as the library's own peek has it"),
             met: Default::default(),
-        }
-    }
-
-    fn compare_states(&mut self, word: Word, buffer: &[u8], reader: u8) {
-        for cursor in 0..=buffer.len() {
-            for counts in counts(reader, cursor) {
-                let case = Case {
-                    word,
-                    buffer,
-                    state: State { cursor, counts },
-                    reader,
-                };
-                self.compare(&case);
-            }
         }
     }
 

@@ -56,19 +56,11 @@ fn compare_reader(
     let word = rust.word();
     let alphabet = alphabet(word);
     for_each_buffer(alphabet, longest, &mut |buffer| {
-        for cursor in 0..=buffer.len() {
-            for counts in counts(reader, cursor) {
-                let case = Case {
-                    word,
-                    buffer,
-                    state: State { cursor, counts },
-                    reader,
-                };
-                for &call in calls {
-                    comparison.compare(rust, &case, call);
-                }
+        for_each_case(word, buffer, reader, &mut |case| {
+            for &call in calls {
+                comparison.compare(rust, case, call);
             }
-        }
+        });
     });
 }
 
@@ -109,6 +101,20 @@ fn calls([digit, _, separator, letter, _]: [u8; 5]) -> [Call; 11] {
         Call::SkipZeros,
         Call::DigitRun,
     ]
+}
+
+/// A reader's cases on one buffer: from every cursor, with each of the counts.
+pub fn for_each_case(word: Word, buffer: &[u8], reader: u8, visit: &mut dyn FnMut(&Case)) {
+    for cursor in 0..=buffer.len() {
+        for counts in counts(reader, cursor) {
+            visit(&Case {
+                word,
+                buffer,
+                state: State { cursor, counts },
+                reader,
+            });
+        }
+    }
 }
 
 /// No digits so far, one by this reader, one by another.

@@ -86,7 +86,7 @@ module _ (m : Sheet → Reader → Reading) (s : List ℕ) (st : State) (law : (
       → answerTo m s (returned (peekBefore m s st call)) call ≡ answerBy (m (sheetOf st)) s (returned (peekBefore m s st call)) call
   after-peek call = ap (λ (g : Sheet). answerBy (m g) s (returned (peekBefore m s st call)) call) (word-seen call)
 
-  -- from an answer after the peek that shows the same and returns the same state
+  -- from an answer after the peek that shows and has seen the same and returns the same state
   changes-nothing : (call : Call) (a : Answered) → answerBy (m (sheetOf st)) s (returned (peekBefore m s st call)) call ≡ a
       → shownIn a ≡ shownIn (answerTo m s st call) → seenIn a ≡ seenIn (answerTo m s st call) → returned a ≡ returned (answerTo m s st call)
       → passedIn (peekBefore m s st call) + passedIn a ≡ passedIn (answerTo m s st call)
