@@ -1,7 +1,7 @@
 -- Demand 3, the byte tally: a single claim about a whole list of calls (documents 00 and 01, "Readers"). Assumes nothing.
 use mathlib.Core.Path.{_≡_}
 use Prim.Native.Nat.{ℕ, _+_, _<_, _≤_}
-use mathlib.Core.Bool.{Bool, true}
+use mathlib.Core.Bool.{Bool, true, false}
 use mathlib.Core.List.{List, [], _∷_, _++_}
 use mathlib.Core.Option.{some, none}
 use lib.Dec.{eqb}
@@ -10,8 +10,9 @@ use Rattle.reader.specs.declared.state.Reader.{Reader}
 use Rattle.reader.specs.declared.state.State.{State}
 use Rattle.reader.specs.Reading.{Reading, mayPass}
 use Rattle.reader.specs.State.{Sheet, sheetOf, freshOn, countOf}
-use Rattle.reader.specs.Answer.{Outcome, SkipOutcome}
-use Rattle.reader.specs.History.{Call, peekBy, takeBy, readIfBy, zeroSkipBy, blockBy, Answered, peekAnswered, takeAnswered, readAnswered, skipAnswered, blockAnswered, answerTo, numberIn, takenIn, passedIn, returned, shownIn, seenIn, Trace, traceFrom, traceOf, totalOf, Step, byteTaken, stepsOf, joined, historyCount, stepCount}
+use Rattle.reader.specs.Answer.{Outcome, ReadOutcome, SkipOutcome}
+use Rattle.reader.specs.ZeroSkip.{isZero}
+use Rattle.reader.specs.History.{Call, peekBy, takeBy, readIfBy, zeroSkipBy, blockBy, Answered, peekAnswered, takeAnswered, readAnswered, skipAnswered, blockAnswered, answerTo, numberIn, takenIn, passedIn, returned, shownIn, seenIn, Trace, traceFrom, traceOf, totalOf, outcomesOf, Step, byteTaken, stepsOf, joined, historyCount, stepCount}
 
 -- A run of separators that a step passed is separators only. It began at the place whose number is how many bytes were joined
 -- before it: there the buffer has a separator and the reader's rule holds, first if its count of the history is 0 up to there,
@@ -43,16 +44,18 @@ abbrev pub passedByReads : List Outcome → ℕ
 passedByReads [] = 0
 passedByReads (o ∷ rest) = o .passed + passedByReads rest
 
--- each read but the last took a `0`, and the last took none; none was refused
-abbrev pub ZerosThenNone : List Outcome → Type 0
+-- each read but the last took the `0` that it saw; the last took none: it declined another byte, or saw none. None was refused.
+abbrev pub ZerosThenNone : List ReadOutcome → Type 0
 ZerosThenNone [] = ⊥
-ZerosThenNone (o ∷ []) = (o .byte ≡ none) × (o .taken ≡ 0) × (o .refusal ≡ 0)
-ZerosThenNone (o ∷ next ∷ rest) = (o .byte ≡ some 48) × (o .taken ≡ 1) × (o .refusal ≡ 0) × ZerosThenNone (next ∷ rest)
+ZerosThenNone (o ∷ []) =
+    (o .outcome .byte ≡ none) × (o .outcome .taken ≡ 0) × (o .outcome .refusal ≡ 0) × ((b : ℕ) → o .seen ≡ some b → isZero b ≡ false)
+ZerosThenNone (o ∷ next ∷ rest) =
+    (o .outcome .byte ≡ some 48) × (o .outcome .taken ≡ 1) × (o .outcome .refusal ≡ 0) × (o .seen ≡ some 48) × ZerosThenNone (next ∷ rest)
 
-pub record SkipTold (o : SkipOutcome) (made : List Outcome) : Type 0 where
-  pub zeros : o .zeros ≡ some (readsThatTook made)
-  pub taken : o .taken ≡ takenByReads made
-  pub passed : o .passed ≡ passedByReads made
+pub record SkipTold (o : SkipOutcome) (made : List ReadOutcome) : Type 0 where
+  pub zeros : o .zeros ≡ some (readsThatTook (outcomesOf made))
+  pub taken : o .taken ≡ takenByReads (outcomesOf made)
+  pub passed : o .passed ≡ passedByReads (outcomesOf made)
   pub reads : ZerosThenNone made
 
 -- every zero skip that was not refused

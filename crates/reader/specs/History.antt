@@ -29,12 +29,23 @@ pub data Answered : Type 0 where
   peekAnswered : Reader → Outcome → Answered
   takeAnswered : Reader → Outcome → Answered
   readAnswered : Reader → ReadOutcome → Answered
-  skipAnswered : Reader → SkipOutcome → List Outcome → Answered
+  skipAnswered : Reader → SkipOutcome → List ReadOutcome → Answered
   blockAnswered : Reader → BlockOutcome → List ℕ → Answered
 
+-- reads one after the other from a state, each with the byte that its peek saw there
+abbrev pub withSeen : (State → Option ℕ) → State → List Outcome → List ReadOutcome
+withSeen peek st [] = []
+withSeen peek st (o ∷ rest) = record { outcome = o; seen = peek st } ∷ withSeen peek (o .state) rest
+
+-- what they did
+abbrev pub outcomesOf : List ReadOutcome → List Outcome
+outcomesOf [] = []
+outcomesOf (o ∷ rest) = o .outcome ∷ outcomesOf rest
+
 -- the reads of a zero skip, by its own answer: one that is refused makes none
-abbrev pub readsMade : Reading → List ℕ → State → Reader → List Outcome
-readsMade m s st r = cond (eqb (skipZerosOf m s st r .refusal) 0) (zeroReadsOf m s st r) []
+abbrev pub readsMade : Reading → List ℕ → State → Reader → List ReadOutcome
+readsMade m s st r =
+    cond (eqb (skipZerosOf m s st r .refusal) 0) (withSeen (λ here. peekOf m s here r .byte) st (zeroReadsOf m s st r)) []
 
 -- What a call answers from a state. `m` says what a sheet means to each reader.
 abbrev pub answerBy : (Reader → Reading) → List ℕ → State → Call → Answered
@@ -150,7 +161,7 @@ abbrev pub withSteps : Answered → List Step → List Step
 withSteps (peekAnswered r o) earlier = record { reader = r; kind = aPeek; passed = o .passed; bytes = [] } ∷ earlier
 withSteps (takeAnswered r o) earlier = stepOf r aTake o ∷ earlier
 withSteps (readAnswered r o) earlier = stepOf r aRead (o .outcome) ∷ earlier
-withSteps (skipAnswered r o reads) earlier = zeroSteps r reads earlier
+withSteps (skipAnswered r o reads) earlier = zeroSteps r (outcomesOf reads) earlier
 withSteps (blockAnswered r o part) earlier = record { reader = r; kind = aBlock; passed = o .passed; bytes = part } ∷ earlier
 
 -- the steps of a history, the latest first

@@ -2,8 +2,8 @@
 -- reads have come to their end: for this room, and for the two demands. Assumes nothing.
 use mathlib.Core.Path.{_≡_, _∙_, refl, sym, ap}
 use mathlib.Core.Bool.{Bool, true, false}
-use mathlib.Core.List.{List, []}
-use mathlib.Core.Option.{some, none}
+use mathlib.Core.List.{List, [], _∷_}
+use mathlib.Core.Option.{Option, some, none}
 use Prim.Native.Nat.{ℕ, _+_}
 use lib.Dec.{eqb}
 use lib.ListN.{length}
@@ -12,10 +12,11 @@ use Rattle.reader.specs.declared.state.State.{State}
 use Rattle.reader.specs.declared.state.Refusal.{Refusal}
 use Rattle.reader.specs.State.{movedTo}
 use Rattle.reader.specs.Reading.{Reading}
-use Rattle.reader.specs.Answer.{numberOf, Outcome, SkipOutcome}
+use Rattle.reader.specs.Answer.{numberOf, Outcome, ReadOutcome, SkipOutcome}
+use Rattle.reader.specs.Calls.{peekOf}
 use Rattle.reader.specs.Repeat.{repeated}
 use Rattle.reader.specs.ZeroSkip.{skipRefusal, isZero, raised, zeroReadOf, zeroReadsOf, skipped, refusedSkip, skipZerosOf}
-use Rattle.reader.specs.History.{readsMade}
+use Rattle.reader.specs.History.{withSeen, outcomesOf, readsMade}
 use Rattle.reader.proofs.state.Refusals.{refusal-tells}
 use Rattle.reader.proofs.passing.Places.{none-there}
 use Rattle.reader.proofs.iterator.ConditionalReads.{read-cases}
@@ -43,10 +44,15 @@ module _ (m : Reading) (s : List ℕ) (st : State) (r : Reader) where
   unfolding skipZerosOf
   skip-refused e number = rw (sym number, refusal-tells e)
 
+-- what reads did is not changed by what they saw
+pub outcomes-back : (peek : State → Option ℕ) (st : State) (reads : List Outcome) → outcomesOf (withSeen peek st reads) ≡ reads
+outcomes-back peek st [] = refl
+outcomes-back peek st (o ∷ rest) = ap (λ (l : List Outcome). o ∷ l) (outcomes-back peek (o .state) rest)
+
 -- a zero skip makes its reads, or it is refused and makes none
 pub skip-cases :
-    (m : Reading) (s : List ℕ) (st : State) (r : Reader) (P : SkipOutcome → List Outcome → Type 0)
-    → (eqb (skipRefusal (m .flags) s st r) 0 ≡ true → P (skipped (repeated (length s) (zeroReadOf m s r) st)) (zeroReadsOf m s st r))
+    (m : Reading) (s : List ℕ) (st : State) (r : Reader) (P : SkipOutcome → List ReadOutcome → Type 0)
+    → (eqb (skipRefusal (m .flags) s st r) 0 ≡ true → P (skipped (repeated (length s) (zeroReadOf m s r) st)) (withSeen (λ here. peekOf m s here r .byte) st (zeroReadsOf m s st r)))
     → (eqb (skipRefusal (m .flags) s st r) 0 ≡ false → P (refusedSkip (skipRefusal (m .flags) s st r) st) [])
     → P (skipZerosOf m s st r) (readsMade m s st r)
 unfolding skipZerosOf
