@@ -83,8 +83,8 @@ readSeen (read.Declined b) = some b
 readSeen read.End = none
 readSeen (read.Refused e) = none
 
--- A conditional read's outcome has beside the byte taken the byte seen. It is taken where there is a byte taken, declined where there is
--- only a byte seen, and the end where there is none.
+-- A conditional read's outcome has the byte that its peek saw beside what it did: taken where there is a byte taken, declined where there
+-- is only a byte seen, the end where there is none.
 pub record ReadOutcome : Type 0 where
   pub outcome : Outcome
   pub seen : Option ℕ

@@ -89,7 +89,7 @@ fn read_in(s: &[u8], state: State, syntax: Syntax, reader: Reader, wanted: ByteS
     }
 }
 
-// Takes the byte under the cursor, uncounted, where it is in the set. Where it is not, the passing stays all the same.
+// Takes the byte under the cursor, uncounted, where it is in the set, and declines it where it is not. The passing stays all the same.
 pub fn read_if(s: &[u8], state: State, reader: Reader, wanted: ByteSet) -> ReadAnswer
     ensures { λ r. ⌜ readOutcomeOf r ≡ readOf (readingFor state reader) (now (s .entry)) state reader (member wanted) ⌝ }
 {

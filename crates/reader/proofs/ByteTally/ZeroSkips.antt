@@ -148,7 +148,6 @@ all-took [] never = absurd never
 all-took (o ∷ []) last = rw (last .0, last .1)
 all-took (o ∷ next ∷ rest) zeros = rw (zeros .0, zeros .1, all-took (next ∷ rest) (zeros .4))
 
-
 module _ (m : Reading) (s : List ℕ) (st : State) (r : Reader) where
   sums-told : eqb (skipRefusal (m .flags) s st r) 0 ≡ true → SkipTold (skipped (repeated (length s) (zeroReadOf m s r) st)) (withSeen (peek m s r) st (zeroReadsOf m s st r))
   unfolding zeroReadsOf
