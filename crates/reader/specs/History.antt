@@ -33,9 +33,9 @@ pub data Answered : Type 0 where
   blockAnswered : Reader → BlockOutcome → List ℕ → Answered
 
 -- reads one after the other from a state, each with the byte that its peek saw there
-abbrev pub withSeen : (State → Option ℕ) → State → List Outcome → List ReadOutcome
-withSeen peek st [] = []
-withSeen peek st (o ∷ rest) = record { outcome = o; seen = peek st } ∷ withSeen peek (o .state) rest
+abbrev pub withSeen : Reading → List ℕ → Reader → State → List Outcome → List ReadOutcome
+withSeen m s r st [] = []
+withSeen m s r st (o ∷ rest) = record { outcome = o; seen = peekOf m s st r .byte } ∷ withSeen m s r (o .state) rest
 
 -- what they did
 abbrev pub outcomesOf : List ReadOutcome → List Outcome
@@ -44,8 +44,7 @@ outcomesOf (o ∷ rest) = o .outcome ∷ outcomesOf rest
 
 -- the reads of a zero skip, by its own answer: one that is refused makes none
 abbrev pub readsMade : Reading → List ℕ → State → Reader → List ReadOutcome
-readsMade m s st r =
-    cond (eqb (skipZerosOf m s st r .refusal) 0) (withSeen (λ here. peekOf m s here r .byte) st (zeroReadsOf m s st r)) []
+readsMade m s st r = cond (eqb (skipZerosOf m s st r .refusal) 0) (withSeen m s r st (zeroReadsOf m s st r)) []
 
 -- What a call answers from a state. `m` says what a sheet means to each reader.
 abbrev pub answerBy : (Reader → Reading) → List ℕ → State → Call → Answered

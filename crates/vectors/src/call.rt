@@ -40,8 +40,9 @@ use word::format_flags::Format;
 const MOST: usize = 8;
 
 // What a call answered, packed as the record has it: whether there was a byte or a block (1 for a zero skip or a digit run, 2 where the
-// call was refused, 3 where a read declined the byte), the byte, how many zeros or the value's lowest byte (the refusal's number), the cursor, what was passed, the three
-// counts, and what was taken. Of a block's part instead its length and its bytes, the last one lowest; of a run's value that number.
+// call was refused, 3 where a read declined the byte), the byte, how many zeros or the value's lowest byte (the refusal's number), the
+// cursor, what was passed, the three counts, and what was taken. Of a block's part instead its length and its bytes, the last one lowest;
+// of a run's value that number.
 pub enum Repeated {
     Packed(u64),
     NoCall,

@@ -16,7 +16,7 @@ use Rattle.reader.specs.declared.state.Reader.{Reader}
 use Rattle.reader.specs.declared.state.State.{State}
 use Rattle.reader.specs.Reading.{Reading, flagsOf, syntaxOf, syntaxOn, readingWith, readingFor, hasAnyFlag, isConsecutiveAlone}
 use Rattle.reader.specs.State.{countSum, movedTo, countedBy, isCounted}
-use Rattle.reader.specs.Answer.{Outcome, ReadOutcome, SkipOutcome}
+use Rattle.reader.specs.Answer.{Outcome, SkipOutcome}
 use Rattle.reader.specs.Repeat.{untilNone, repeated}
 use Rattle.reader.specs.Calls.{peekOf, nextOf, takenFrom, readIfOf}
 use Rattle.reader.specs.ZeroSkip.{isZero, skipRefusal, zeroReadOf, skipZerosOf}

@@ -8,7 +8,6 @@ use Rattle.reader.specs.declared.state.Reader.{Reader}
 use Rattle.reader.specs.declared.state.State.{State}
 use Rattle.reader.specs.Reading.{Reading}
 use Rattle.reader.specs.State.{Sheet}
-use Rattle.reader.specs.Calls.{peekOf}
 use Rattle.reader.specs.ZeroSkip.{zeroReadsOf, skipZerosOf}
 use Rattle.reader.specs.History.{Call, peekBy, takeBy, readIfBy, zeroSkipBy, blockBy, Answered, skipAnswered, readsMade, answerBy, takenIn, passedIn, returned, Step, withSteps}
 use Rattle.reader.proofs.iterator.Zeros.{outcomes-back, skip-cases}
@@ -37,7 +36,7 @@ module _ (m : Reader → Reading) (s : List ℕ) (sheet : Sheet) (st : State) (s
       let skips = skipping m s sheet r (length s) st steps so-far in
       skip-cases (m r) s st r
       (λ o reads. Answering (skipAnswered r o reads))
-      (λ clear. record { tallied = rw (outcomes-back (λ here. peekOf (m r) s here r .byte) st (zeroReadsOf (m r) s st r)) (skips .tallied); cursor = skips .cursor })
+      (λ clear. record { tallied = rw (outcomes-back (m r) s r st (zeroReadsOf (m r) s st r)) (skips .tallied); cursor = skips .cursor })
       (λ away. record { tallied = so-far; cursor = omega arith })
 
   pub answering : (call : Call) → Answering (answerBy m s st call)

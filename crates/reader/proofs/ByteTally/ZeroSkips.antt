@@ -31,30 +31,21 @@ module _ (m : Reading) (s : List ℕ) (st : State) (r : Reader) where
   abbrev seen : Outcome
   seen = peekOf m s st r
 
-  -- a byte that a read answers is in its set
-  read-in-set : (wanted : ℕ → Bool) (b : ℕ) → readIfOf m s st r wanted .byte ≡ some b → wanted b ≡ true
+  -- a byte that a read answers is the one that it saw, and in its set
+  read-seen : (wanted : ℕ → Bool) (b : ℕ) → readIfOf m s st r wanted .byte ≡ some b → (seen .byte ≡ some b) × (wanted b ≡ true)
   unfolding readIfOf
-  read-in-set wanted b = go (seen .byte) refl where
-    asked : (c : ℕ) (t : Bool) → wanted c ≡ t → readByteIf wanted seen (some c) .byte ≡ some b → wanted b ≡ true
-    asked c true t h = let k : some c ≡ some b = rw t at h in let same : c ≡ b = cc in rw same at t
-    asked c false t h = absurd (none-there b (rw t at h))
-
-    go : (o : Option ℕ) → seen .byte ≡ o → readByteIf wanted seen o .byte ≡ some b → wanted b ≡ true
-    go none e h = absurd (none-there b (sym e ∙ h))
-    go (some c) e h = asked c (wanted c) refl h
-
-  -- and is the byte that it saw; one that it declines is not in its set
-  read-as-seen : (wanted : ℕ → Bool) (b : ℕ) → readIfOf m s st r wanted .byte ≡ some b → seen .byte ≡ some b
-  unfolding readIfOf
-  read-as-seen wanted b = go (seen .byte) refl where
-    asked : (c : ℕ) (t : Bool) → wanted c ≡ t → seen .byte ≡ some c → readByteIf wanted seen (some c) .byte ≡ some b → seen .byte ≡ some b
-    asked c true t e h = e ∙ rw t at h
+  read-seen wanted b = go (seen .byte) refl where
+    asked :
+        (c : ℕ) (t : Bool) → wanted c ≡ t → seen .byte ≡ some c → readByteIf wanted seen (some c) .byte ≡ some b
+        → (seen .byte ≡ some b) × (wanted b ≡ true)
+    asked c true t e h = let k : some c ≡ some b = rw t at h in let same : c ≡ b = cc in (e ∙ k, rw same at t)
     asked c false t e h = absurd (none-there b (rw t at h))
 
-    go : (o : Option ℕ) → seen .byte ≡ o → readByteIf wanted seen o .byte ≡ some b → seen .byte ≡ some b
-    go none e h = h
+    go : (o : Option ℕ) → seen .byte ≡ o → readByteIf wanted seen o .byte ≡ some b → (seen .byte ≡ some b) × (wanted b ≡ true)
+    go none e h = absurd (none-there b (sym e ∙ h))
     go (some c) e h = asked c (wanted c) refl e h
 
+  -- and one that it declines is not
   declined-other : (wanted : ℕ → Bool) (b : ℕ) → readIfOf m s st r wanted .byte ≡ none → seen .byte ≡ some b → wanted b ≡ false
   unfolding readIfOf
   declined-other wanted b h e = go (wanted b) refl (rw e at h) where
@@ -74,9 +65,9 @@ module _ (m : Reading) (s : List ℕ) (st : State) (r : Reader) where
   -- so its byte is a `0`, and what it declines is none
   zero-read : (b : ℕ) → zeroReadOf m s r st .byte ≡ some b → (zeroReadOf m s r st .byte ≡ some 48) × (seen .byte ≡ some 48)
   zero-read b e =
-      let read = sym zero-byte ∙ e in
-      let is-zero : b ≡ 48 = eqb-true b 48 (read-in-set isZero b read) in
-      (e ∙ ap some is-zero, read-as-seen isZero b read ∙ ap some is-zero)
+      let read = read-seen isZero b (sym zero-byte ∙ e) in
+      let is-zero : b ≡ 48 = eqb-true b 48 (read .1) in
+      (e ∙ ap some is-zero, read .0 ∙ ap some is-zero)
 
   other-seen : zeroReadOf m s r st .byte ≡ none → (b : ℕ) → seen .byte ≡ some b → isZero b ≡ false
   other-seen e b = declined-other isZero b (sym zero-byte ∙ e)
@@ -98,38 +89,35 @@ module _ (m : Reading) (s : List ℕ) (r : Reader) where
   abbrev call : State → Outcome
   call = zeroReadOf m s r
 
-  abbrev peek : State → Option ℕ
-  peek = λ here. peekOf m s here r .byte
-
   took : (st : State) (b : Option ℕ) → call st .byte ≡ b → call st .taken ≡ length (byteTaken b)
   took st b e = zero-counts (λ q. m) s st r ∙ ap (λ (o : Option ℕ). length (byteTaken o)) e
 
   -- a read that took none is the last one, one that took a byte is not
   last-read : (st : State) (following : List Outcome) → refusalOf m s st r ≡ 0 → call st .byte ≡ none
-      → ZerosThenNone (withSeen peek st (call st ∷ ifByte (call st .byte) following))
+      → ZerosThenNone (withSeen m s r st (call st ∷ ifByte (call st .byte) following))
   last-read st following clear e =
-      subst (λ (b : Option ℕ). ZerosThenNone (withSeen peek st (call st ∷ ifByte b following))) (sym e)
+      subst (λ (b : Option ℕ). ZerosThenNone (withSeen m s r st (call st ∷ ifByte b following))) (sym e)
       (e, took st none e, zero-clear m s st r clear, other-seen m s st r e)
 
   read-more : (st : State) (b : ℕ) (next : Outcome) (rest : List Outcome) → refusalOf m s st r ≡ 0 → call st .byte ≡ some b
-      → ZerosThenNone (withSeen peek (call st .state) (next ∷ rest)) → ZerosThenNone (withSeen peek st (call st ∷ ifByte (call st .byte) (next ∷ rest)))
+      → ZerosThenNone (withSeen m s r (call st .state) (next ∷ rest)) → ZerosThenNone (withSeen m s r st (call st ∷ ifByte (call st .byte) (next ∷ rest)))
   read-more st b next rest clear e then =
       let zero = zero-read m s st r b e in
-      subst (λ (b : Option ℕ). ZerosThenNone (withSeen peek st (call st ∷ ifByte b (next ∷ rest)))) (sym e)
+      subst (λ (b : Option ℕ). ZerosThenNone (withSeen m s r st (call st ∷ ifByte b (next ∷ rest)))) (sym e)
       (zero .0, took st (some b) e, zero-clear m s st r clear, zero .1, then)
 
   -- each took a `0` until one took none, if as many may follow the first as there are bytes left
-  reads-end : (n : ℕ) (st : State) → refusalOf m s st r ≡ 0 → length s ≤ st .cursor + n → ZerosThenNone (withSeen peek st (call st ∷ untilNone n call (call st)))
+  reads-end : (n : ℕ) (st : State) → refusalOf m s st r ≡ 0 → length s ≤ st .cursor + n → ZerosThenNone (withSeen m s r st (call st ∷ untilNone n call (call st)))
   unfolding untilNone
   reads-end zero st clear few = go (call st .byte) refl where
-    go : (o : Option ℕ) → call st .byte ≡ o → ZerosThenNone (withSeen peek st (call st ∷ []))
+    go : (o : Option ℕ) → call st .byte ≡ o → ZerosThenNone (withSeen m s r st (call st ∷ []))
     go none e = (e, took st none e, zero-clear m s st r clear, other-seen m s st r e)
     go (some b) e = absurd (omega (arith, zero-takes-one m s st r b e .inside))
   reads-end (suc n) st clear few = go (call st .byte) refl (reads-end n (call st .state) (moves-clear (λ q. m) s st _ (call st .state) (zero-step (λ q. m) s st r) (m .flags) r clear)) where
     go :
         (o : Option ℕ) → call st .byte ≡ o
-        → (length s ≤ call st .state .cursor + n → ZerosThenNone (withSeen peek (call st .state) (call (call st .state) ∷ untilNone n call (call (call st .state)))))
-        → ZerosThenNone (withSeen peek st (call st ∷ ifByte (call st .byte) (call (call st .state) ∷ untilNone n call (call (call st .state)))))
+        → (length s ≤ call st .state .cursor + n → ZerosThenNone (withSeen m s r (call st .state) (call (call st .state) ∷ untilNone n call (call (call st .state)))))
+        → ZerosThenNone (withSeen m s r st (call st ∷ ifByte (call st .byte) (call (call st .state) ∷ untilNone n call (call (call st .state)))))
     go none e rest = last-read st _ clear e
     go (some b) e rest = read-more st b _ _ clear e (rest (omega (arith, zero-takes-one m s st r b e .moves)))
 
@@ -149,17 +137,17 @@ all-took (o ∷ []) last = rw (last .0, last .1)
 all-took (o ∷ next ∷ rest) zeros = rw (zeros .0, zeros .1, all-took (next ∷ rest) (zeros .4))
 
 module _ (m : Reading) (s : List ℕ) (st : State) (r : Reader) where
-  sums-told : eqb (skipRefusal (m .flags) s st r) 0 ≡ true → SkipTold (skipped (repeated (length s) (zeroReadOf m s r) st)) (withSeen (peek m s r) st (zeroReadsOf m s st r))
+  sums-told : eqb (skipRefusal (m .flags) s st r) 0 ≡ true → SkipTold (skipped (repeated (length s) (zeroReadOf m s r) st)) (withSeen m s r st (zeroReadsOf m s st r))
   unfolding zeroReadsOf
   sums-told t =
       let clear = skip-admits (m .flags) s st r (eqb-true (skipRefusal (m .flags) s st r) 0 t) .1 in
       let first = zeroReadOf m s r st in
       let rest = untilNone (length s) (zeroReadOf m s r) first in
       let reads = reads-end m s r (length s) st clear (omega arith) in
-      let back = sym (outcomes-back (peek m s r) st (first ∷ rest)) in
+      let back = sym (outcomes-back m s r st (first ∷ rest)) in
       let sum = sum-taken first rest ∙ ap takenByReads back in
       record {
-        zeros = ap some (sum ∙ all-took (withSeen (peek m s r) st (first ∷ rest)) reads);
+        zeros = ap some (sum ∙ all-took (withSeen m s r st (first ∷ rest)) reads);
         taken = sum;
         passed = sum-passed first rest ∙ ap passedByReads back;
         reads = reads;
@@ -201,7 +189,7 @@ module _ (m : Reader → Reading) (s : List ℕ) (st : State) (earlier : List An
       skip-cases (m r) s st r
       (λ o reads. stepCount m q (zeroSteps r (outcomesOf reads) (stepsOf earlier)) ≡ historyCount m q earlier + cond (countsFor q r) (zerosTold (o .zeros)) 0)
       (λ clear.
-      let made = outcomesOf (withSeen (peek (m r) s r) st (zeroReadsOf (m r) s st r)) in
+      let made = outcomesOf (withSeen (m r) s r st (zeroReadsOf (m r) s st r)) in
       reads-count m q r made (stepsOf earlier)
       ∙ ap (λ (n : ℕ). n + cond by (readsThatTook made) 0) so-far
       ∙ ap (λ (n : ℕ). historyCount m q earlier + cond by n 0) (sym (ap zerosTold (sums-told (m r) s st r clear .zeros))))

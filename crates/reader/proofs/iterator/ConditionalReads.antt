@@ -8,7 +8,7 @@ use Prim.Native.Nat.{ℕ, _+_, _<_}
 use Rattle.reader.specs.declared.state.Reader.{Reader}
 use Rattle.reader.specs.declared.state.State.{State}
 use Rattle.reader.specs.Reading.{Reading, passedAt}
-use Rattle.reader.specs.Answer.{Outcome, ReadOutcome}
+use Rattle.reader.specs.Answer.{Outcome}
 use Rattle.reader.specs.Calls.{peekOf, readTaken, readDeclined, readByteIf, readIfOf, readOf, refusalOf, peeked}
 use lib.Dec.{eqb, ltb}
 use lib.ListN.{length, getD}

@@ -3,7 +3,7 @@
 use mathlib.Core.Path.{_≡_, _∙_, refl, sym, ap}
 use mathlib.Core.Bool.{Bool, true, false}
 use mathlib.Core.List.{List, [], _∷_}
-use mathlib.Core.Option.{Option, some, none}
+use mathlib.Core.Option.{some, none}
 use Prim.Native.Nat.{ℕ, _+_}
 use lib.Dec.{eqb}
 use lib.ListN.{length}
@@ -13,7 +13,6 @@ use Rattle.reader.specs.declared.state.Refusal.{Refusal}
 use Rattle.reader.specs.State.{movedTo}
 use Rattle.reader.specs.Reading.{Reading}
 use Rattle.reader.specs.Answer.{numberOf, Outcome, ReadOutcome, SkipOutcome}
-use Rattle.reader.specs.Calls.{peekOf}
 use Rattle.reader.specs.Repeat.{repeated}
 use Rattle.reader.specs.ZeroSkip.{skipRefusal, isZero, raised, zeroReadOf, zeroReadsOf, skipped, refusedSkip, skipZerosOf}
 use Rattle.reader.specs.History.{withSeen, outcomesOf, readsMade}
@@ -45,14 +44,14 @@ module _ (m : Reading) (s : List ℕ) (st : State) (r : Reader) where
   skip-refused e number = rw (sym number, refusal-tells e)
 
 -- what reads did is not changed by what they saw
-pub outcomes-back : (peek : State → Option ℕ) (st : State) (reads : List Outcome) → outcomesOf (withSeen peek st reads) ≡ reads
-outcomes-back peek st [] = refl
-outcomes-back peek st (o ∷ rest) = ap (λ (l : List Outcome). o ∷ l) (outcomes-back peek (o .state) rest)
+pub outcomes-back : (m : Reading) (s : List ℕ) (r : Reader) (st : State) (reads : List Outcome) → outcomesOf (withSeen m s r st reads) ≡ reads
+outcomes-back m s r st [] = refl
+outcomes-back m s r st (o ∷ rest) = ap (λ (l : List Outcome). o ∷ l) (outcomes-back m s r (o .state) rest)
 
 -- a zero skip makes its reads, or it is refused and makes none
 pub skip-cases :
     (m : Reading) (s : List ℕ) (st : State) (r : Reader) (P : SkipOutcome → List ReadOutcome → Type 0)
-    → (eqb (skipRefusal (m .flags) s st r) 0 ≡ true → P (skipped (repeated (length s) (zeroReadOf m s r) st)) (withSeen (λ here. peekOf m s here r .byte) st (zeroReadsOf m s st r)))
+    → (eqb (skipRefusal (m .flags) s st r) 0 ≡ true → P (skipped (repeated (length s) (zeroReadOf m s r) st)) (withSeen m s r st (zeroReadsOf m s st r)))
     → (eqb (skipRefusal (m .flags) s st r) 0 ≡ false → P (refusedSkip (skipRefusal (m .flags) s st r) st) [])
     → P (skipZerosOf m s st r) (readsMade m s st r)
 unfolding skipZerosOf
