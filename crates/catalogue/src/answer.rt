@@ -4,7 +4,7 @@ ghost use Rattle.catalogue.specs.Catalogue.{answer_number};
 
 use word::error::Error;
 
-#[derive(Drop)]
+#[derive(Clone, Copy)]
 pub enum Answer {
     Accepted,
     InvalidWord(Error),

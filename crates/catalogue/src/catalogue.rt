@@ -7,13 +7,13 @@ use crate::answer::Answer;
 use crate::lookup::{Found, Listed};
 use word::format_flags::Format;
 
-#[derive(Drop)]
+#[derive(Clone, Copy)]
 pub struct Catalogue {
     pub words: [u64; 194],
 }
 
 // An answer, and the catalogue behind it.
-#[derive(Drop)]
+#[derive(Clone, Copy)]
 pub struct Changed {
     pub catalogue: Catalogue,
     pub answer: Answer,

@@ -10,7 +10,7 @@ use word::format_flags::Format;
 
 // A school and the format word of its sheet. The number is as it stands in the block: from 1 to 65,535 in every catalogue that comes from
 // an empty one.
-#[derive(Drop)]
+#[derive(Clone, Copy)]
 pub struct Entry {
     pub school: u64,
     pub format: Format,

@@ -7,13 +7,13 @@ use crate::entries::{Entry, entry_at, listed, stands_at};
 use crate::search::place_of;
 use word::format_flags::Format;
 
-#[derive(Drop)]
+#[derive(Clone, Copy)]
 pub enum Found {
     Word(Format),
     Nowhere,
 }
 
-#[derive(Drop)]
+#[derive(Clone, Copy)]
 pub enum Listed {
     At(Entry),
     Nowhere,

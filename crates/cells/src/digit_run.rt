@@ -15,7 +15,7 @@ use reader::state::{Admission, Reader, Refusal, State, moved, with_count};
 use word::digit::char_is_digit_by_table;
 
 // What a run comes to: its exact value, or why it is refused.
-#[derive(Drop)]
+#[derive(Clone, Copy)]
 pub enum Number {
     Value(u64),
     NoDigit,
@@ -24,14 +24,14 @@ pub enum Number {
 }
 
 // An answer without the state, as a take's.
-#[derive(Drop)]
+#[derive(Clone, Copy)]
 pub struct RunReport {
     pub number: Number,
     pub taken: usize,
     pub passed: usize,
 }
 
-#[derive(Drop)]
+#[derive(Clone, Copy)]
 pub struct RunAnswer {
     pub report: RunReport,
     pub state: State,
@@ -39,7 +39,7 @@ pub struct RunAnswer {
 
 // A step of a run: a byte taken, with the place and the reader's count behind it and how many separators were passed; or the end of the
 // run, with its place and what the last peek passed.
-#[derive(Drop)]
+#[derive(Clone, Copy)]
 pub enum Step {
     Taken(u8, usize, usize, usize),
     Over(usize, usize),

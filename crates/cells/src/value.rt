@@ -6,7 +6,7 @@ ghost use Rattle.cells.specs.Code.Growth.{grown_to};
 
 use word::digit::{DigitValue, digit_value};
 
-#[derive(Drop)]
+#[derive(Clone, Copy)]
 pub struct Grown {
     pub fits: bool,
     pub value: u64,

@@ -8,7 +8,7 @@ use reader::state::{Named, reader_named};
 use word::format_flags::Format;
 
 // The number returned, and the sums over a column.
-#[derive(Drop)]
+#[derive(Clone, Copy)]
 pub struct ColumnReply {
     pub number: u32,
     pub taken: usize,

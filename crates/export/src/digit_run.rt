@@ -85,7 +85,7 @@ fn digit_run_any(s: &[u8], reader: u8, state: &mut [u64; 8], answer: &mut [u64; 
 
 // What the digits of a grouped cell come to: whether it is one, and then where they end, their value, how many they are and the
 // separators passed.
-#[derive(Drop)]
+#[derive(Clone, Copy)]
 pub struct GroupedRun {
     pub is_so: bool,
     pub at: usize,

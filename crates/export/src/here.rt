@@ -9,7 +9,7 @@ ghost use Rattle.export.specs.Code.Here.{here_of, own_flags, words_at};
 use word::format_flags::{Format, bit_at};
 
 // What is under the cursor of a reader that counts and is not refused, on a state of a known edition; for any other it is not told.
-#[derive(Drop)]
+#[derive(Clone, Copy)]
 pub enum Here {
     // A byte other than the word's separator.
     Byte(u8),

@@ -4,6 +4,8 @@
 // caller's to see to: a pointer is not null, also where its slice is empty or its place goes unused; it is aligned for its type, and
 // valid for as many elements as the length beside it says, or as its array has; nothing that is written overlaps anything else that is
 // passed; and nobody else writes to any of it during the call.
+#![tactic(auto)]
+
 ghost use Rattle.std.specs.Prelude.{◌≡◌};
 ghost use Rattle.word.specs.Digit.{is_digit};
 ghost use Rattle.word.specs.Ascii.{valid_ascii};

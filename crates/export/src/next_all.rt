@@ -41,7 +41,7 @@ pub(crate) fn next_all_any(s: &[u8], reader: u8, state: &mut [u64; 8], answer: &
 
 // What a grouped cell comes to: whether it is one, and then its digits and the separators passed; if not, whether two separators side by
 // side were met.
-#[derive(Drop)]
+#[derive(Clone, Copy)]
 pub struct Grouped {
     pub is_so: bool,
     pub has_run: bool,

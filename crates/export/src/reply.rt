@@ -10,7 +10,7 @@ use reader::iterator::{Read, ReadAnswer};
 use reader::skip::{Answer, Seen};
 use reader::state::State;
 
-#[derive(Drop)]
+#[derive(Clone, Copy)]
 pub struct Reply {
     pub number: u32,
     pub state: State,

@@ -11,7 +11,7 @@ use crate::state::{Reader, State};
 use word::byte_set::ByteSet;
 use word::format_flags::Format;
 
-#[derive(Drop)]
+#[derive(Clone, Copy)]
 pub struct Bytes<'a> {
     pub slc: &'a [u8],
     pub state: State,

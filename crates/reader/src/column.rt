@@ -17,21 +17,21 @@ use word::digit::char_is_digit_by_table;
 use word::format_flags::Format;
 
 // What is summed over the cells.
-#[derive(Drop)]
+#[derive(Clone, Copy)]
 pub struct Totals {
     pub taken: usize,
     pub passed: usize,
     pub digits: usize,
 }
 
-#[derive(Drop)]
+#[derive(Clone, Copy)]
 pub enum Column {
     Read(Totals),
     Refused(Refusal),
 }
 
 // The cell that a walk over a column has come to, and where it begins.
-#[derive(Drop)]
+#[derive(Clone, Copy)]
 pub struct Reached {
     pub cell: usize,
     pub at: usize,

@@ -12,7 +12,7 @@ use crate::state::{Admission, Reader, Refusal, State, admit_skip, moved, with_co
 use word::byte_set::ByteSet;
 
 // What a conditional read did: it took a byte, it declined the byte that it saw, or there was none.
-#[derive(Drop)]
+#[derive(Clone, Copy)]
 pub enum Read {
     Taken(u8),
     Declined(u8),
@@ -21,34 +21,34 @@ pub enum Read {
 }
 
 // An answer without the state, as a peek's and a take's.
-#[derive(Drop)]
+#[derive(Clone, Copy)]
 pub struct ReadReport {
     pub read: Read,
     pub taken: usize,
     pub passed: usize,
 }
 
-#[derive(Drop)]
+#[derive(Clone, Copy)]
 pub struct ReadAnswer {
     pub report: ReadReport,
     pub state: State,
 }
 
 // What a zero skip did: how many zeros it took.
-#[derive(Drop)]
+#[derive(Clone, Copy)]
 pub enum Skipped {
     Zeros(usize),
     Refused(Refusal),
 }
 
-#[derive(Drop)]
+#[derive(Clone, Copy)]
 pub struct SkipReport {
     pub skipped: Skipped,
     pub taken: usize,
     pub passed: usize,
 }
 
-#[derive(Drop)]
+#[derive(Clone, Copy)]
 pub struct SkipAnswer {
     pub report: SkipReport,
     pub state: State,

@@ -1,5 +1,7 @@
 // Readers of number cells over a format word that is data: a port of lexical-util's cursor over bytes and digit separators. Each
 // call takes the caller's buffer and a state by value, and returns the next state.
+#![tactic(auto)]
+
 pub mod bytes;
 pub mod column;
 pub mod iterator;

@@ -5,19 +5,19 @@ ghost use Rattle.reader.specs.Plain.{plain_outcome_of, plain_peek_of, plain_next
 use crate::state::Reader;
 
 // The plain reader's state.
-#[derive(Drop)]
+#[derive(Clone, Copy)]
 pub struct Cursor {
     pub cursor: usize,
 }
 
-#[derive(Drop)]
+#[derive(Clone, Copy)]
 pub enum Seen {
     Byte(u8),
     End,
     CursorPastEnd,
 }
 
-#[derive(Drop)]
+#[derive(Clone, Copy)]
 pub struct Answer {
     pub seen: Seen,
     pub taken: usize,

@@ -5,7 +5,7 @@ ghost use Rattle.reader.specs.Open.{open_of, open_outcome_of};
 use crate::state::State;
 use word::format_flags::Format;
 
-#[derive(Drop)]
+#[derive(Clone, Copy)]
 pub enum Opened {
     Fresh(State),
     // The number of the check's first line that fails.

@@ -7,7 +7,7 @@ use word::digit::char_is_digit_by_range;
 
 // Which pairs count: those whose first byte is the separator, or all, by the kind of the second byte. A byte that is a digit and the
 // separator at once is a digit here.
-#[derive(Drop)]
+#[derive(Clone, Copy)]
 pub struct Pairs {
     pub separator: u8,
     pub radix: u8,

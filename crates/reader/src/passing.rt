@@ -15,7 +15,7 @@ use word::digit::char_is_digit_by_table;
 use word::format_flags::Format;
 
 // What a format word says to one reader.
-#[derive(Drop)]
+#[derive(Clone, Copy)]
 pub struct Syntax {
     pub separator: u8,
     pub radix: u8,

@@ -9,7 +9,7 @@ ghost use Rattle.reader.specs.Code.RuleWords.{cell_of, code_of, IsEntry, IsLater
 use word::format_flags::bit_at;
 
 // Where a reader may pass separators.
-#[derive(Drop)]
+#[derive(Clone, Copy)]
 pub struct Flags {
     pub internal: bool,
     pub leading: bool,
@@ -32,7 +32,7 @@ pub(crate) fn is_consecutive_alone(flags: Flags) -> bool
 }
 
 // What a rule asks of a separator's neighbour.
-#[derive(Drop)]
+#[derive(Clone, Copy)]
 pub struct Neighbour {
     pub exists: bool,
     pub digit: bool,
@@ -40,14 +40,14 @@ pub struct Neighbour {
 }
 
 // Which neighbours a rule looks at.
-#[derive(Drop)]
+#[derive(Clone, Copy)]
 pub struct Wanted {
     pub previous: bool,
     pub next: bool,
 }
 
 // The rule of a reader that has counted: whether it never holds, and the entry of its cell.
-#[derive(Drop)]
+#[derive(Clone, Copy)]
 pub struct Later {
     pub never: bool,
     pub word: u64,

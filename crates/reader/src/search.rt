@@ -5,7 +5,7 @@ ghost use Rattle.reader.specs.Search.{run_search_of};
 ghost use Rattle.reader.specs.Code.Eights.{NumberOf, BytesAt};
 
 // The end of a run, and how many steps over eight bytes and over one led to it.
-#[derive(Drop)]
+#[derive(Clone, Copy)]
 pub struct RunSearch {
     pub end: usize,
     pub eights: usize,
@@ -13,7 +13,7 @@ pub struct RunSearch {
 }
 
 // Where steps of one size have come to, and how many they were.
-#[derive(Drop)]
+#[derive(Clone, Copy)]
 pub struct Steps {
     pub place: usize,
     pub steps: usize,

@@ -22,7 +22,7 @@ use word::digit::char_is_digit_by_table;
 use word::format_flags::Format;
 
 // What a peek or a take sees.
-#[derive(Drop)]
+#[derive(Clone, Copy)]
 pub enum Seen {
     Byte(u8),
     End,
@@ -30,62 +30,62 @@ pub enum Seen {
 }
 
 // An answer without the state: what was seen, how many bytes were taken, how many separators passed.
-#[derive(Drop)]
+#[derive(Clone, Copy)]
 pub struct Report {
     pub seen: Seen,
     pub taken: usize,
     pub passed: usize,
 }
 
-#[derive(Drop)]
+#[derive(Clone, Copy)]
 pub struct Answer {
     pub report: Report,
     pub state: State,
 }
 
 // A peek's answer without the state, likewise.
-#[derive(Drop)]
+#[derive(Clone, Copy)]
 pub struct PeekReport {
     pub seen: Seen,
     pub taken: usize,
     pub passed: usize,
 }
 
-#[derive(Drop)]
+#[derive(Clone, Copy)]
 pub struct Peeked {
     pub report: PeekReport,
     pub state: State,
 }
 
 // What a block take answers: a block, which may be empty, or none.
-#[derive(Drop)]
+#[derive(Clone, Copy)]
 pub enum Block {
     Taken,
     None,
     Refused(Refusal),
 }
 
-#[derive(Drop)]
+#[derive(Clone, Copy)]
 pub struct BlockReport {
     pub block: Block,
     pub taken: usize,
     pub passed: usize,
 }
 
-#[derive(Drop)]
+#[derive(Clone, Copy)]
 pub struct BlockAnswer {
     pub report: BlockReport,
     pub state: State,
 }
 
-#[derive(Drop)]
+#[derive(Clone, Copy)]
 pub enum Count {
     Shown(usize),
     Refused(Refusal),
 }
 
 // What a look at the cursor finds: a byte or the end, with the place that the cursor moves to and how many separators it passes.
-#[derive(Drop)]
+#[derive(Clone, Copy)]
 pub enum Looked {
     Byte(u8, usize, usize),
     End(usize, usize),
@@ -93,7 +93,7 @@ pub enum Looked {
 }
 
 // What takes to the end come to, as numbers: the place, the reader's count, and how many separators were passed.
-#[derive(Drop)]
+#[derive(Clone, Copy)]
 pub struct TakeSums {
     pub at: usize,
     pub count: usize,

@@ -11,7 +11,7 @@ use crate::rule::{Flags, has_any, is_consecutive_alone};
 use word::format_flags::Format;
 
 // Who reads: the three readers of digits, each with flags and a count of its own, and the reader of special values.
-#[derive(Drop)]
+#[derive(Clone, Copy)]
 pub enum Reader {
     Integer,
     Fraction,
@@ -20,23 +20,23 @@ pub enum Reader {
 }
 
 // The reader that a number names.
-#[derive(Drop)]
+#[derive(Clone, Copy)]
 pub enum Named {
     Known(Reader),
     Unknown,
 }
 
 // The digits counted by each reader: a type each, so that none stands for another.
-#[derive(Drop)]
+#[derive(Clone, Copy)]
 pub struct IntegerCount(pub usize);
 
-#[derive(Drop)]
+#[derive(Clone, Copy)]
 pub struct FractionCount(pub usize);
 
-#[derive(Drop)]
+#[derive(Clone, Copy)]
 pub struct ExponentCount(pub usize);
 
-#[derive(Drop)]
+#[derive(Clone, Copy)]
 pub struct State {
     pub format: Format,
     pub cursor: usize,
@@ -46,7 +46,7 @@ pub struct State {
 }
 
 // Why a call is refused.
-#[derive(Drop)]
+#[derive(Clone, Copy)]
 pub enum Refusal {
     CursorPastEnd,
     CountsExceedCursor,
@@ -56,7 +56,7 @@ pub enum Refusal {
     ConsecutiveExponent,
 }
 
-#[derive(Drop)]
+#[derive(Clone, Copy)]
 pub enum Admission {
     Admitted,
     Refused(Refusal),

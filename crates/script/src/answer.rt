@@ -10,7 +10,7 @@ use crate::run::{Stage, respond};
 use reader::min::min_usize;
 
 // How far a part of the input is answered: how far the run is, how many bytes of the part were read and how many of the buffer written.
-#[derive(Drop)]
+#[derive(Clone, Copy)]
 pub struct Progress {
     pub stage: Stage,
     pub used: usize,

@@ -13,7 +13,7 @@ use reader::skip::{Answer, Block, BlockAnswer, Seen, next, peek, take_n};
 use reader::state::{Reader, State};
 
 // What stands behind the kind: a number (the byte, or how many zeros), `-`, `none`, or a refusal's number.
-#[derive(Drop)]
+#[derive(Clone, Copy)]
 pub enum Shown {
     Number(usize),
     Dash,
@@ -21,7 +21,7 @@ pub enum Shown {
     Refused(u32),
 }
 
-#[derive(Drop)]
+#[derive(Clone, Copy)]
 pub struct Reply {
     pub shown: Shown,
     pub taken: usize,

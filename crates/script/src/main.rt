@@ -1,4 +1,6 @@
 // Runs a call script: records from standard input, a line on standard output for each answer.
+#![tactic(auto)]
+
 mod answer;
 mod call;
 mod line;

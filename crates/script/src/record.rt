@@ -2,7 +2,7 @@
 ghost use Rattle.std.specs.Prelude.{◌≡◌, ◌+◌, ◌≤◌, ◌<◌, ◌^◌, ◌*◌, length};
 ghost use Rattle.script.specs.Record.{kind_of, body_length, number_at, whole_record};
 
-#[derive(Drop)]
+#[derive(Clone, Copy)]
 pub enum Kind {
     Text,
     Open,
@@ -15,7 +15,7 @@ pub enum Kind {
 }
 
 // A call of a reader, with what it has beside the reader.
-#[derive(Drop)]
+#[derive(Clone, Copy)]
 pub enum Call {
     Peek,
     Take,
@@ -24,7 +24,7 @@ pub enum Call {
     Block(u32),
 }
 
-#[derive(Drop)]
+#[derive(Clone, Copy)]
 pub enum Record {
     Unknown,
     CutShort,

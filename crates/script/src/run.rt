@@ -16,7 +16,7 @@ use reader::state::{Named, Reader, State, reader_named};
 pub const MOST_TEXT: usize = 4096;
 
 // How far a run is.
-#[derive(Drop)]
+#[derive(Clone, Copy)]
 pub enum Stage {
     // How many bytes of text there are.
     Gathering(usize),
@@ -26,7 +26,7 @@ pub enum Stage {
 }
 
 // The stage behind a record, and where its line ends in the buffer.
-#[derive(Drop)]
+#[derive(Clone, Copy)]
 pub struct Response {
     pub stage: Stage,
     pub end: usize,

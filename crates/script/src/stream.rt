@@ -10,7 +10,7 @@ use libc::{STDIN_FILENO, STDOUT_FILENO};
 
 // What a turn begins with: how far the run is, how many bytes at the buffer's start have arrived and are not answered, and whether the
 // input has ended.
-#[derive(Drop)]
+#[derive(Clone, Copy)]
 pub struct Start {
     pub stage: Stage,
     pub filled: usize,
@@ -18,7 +18,7 @@ pub struct Start {
 }
 
 // What is to be done behind a turn.
-#[derive(Drop)]
+#[derive(Clone, Copy)]
 pub enum Next {
     Again,
     Read,
@@ -27,7 +27,7 @@ pub enum Next {
 
 // A turn: how far the run is, how many bytes are kept at the buffer's start, how many bytes of lines there are to write, and what is
 // to be done then.
-#[derive(Drop)]
+#[derive(Clone, Copy)]
 pub struct Turn {
     pub stage: Stage,
     pub kept: usize,
@@ -36,7 +36,7 @@ pub struct Turn {
 }
 
 // What a read gave: so many bytes are in the buffer now; the input's end; or nothing, since it failed.
-#[derive(Drop)]
+#[derive(Clone, Copy)]
 pub enum Arrival {
     More(usize),
     End,
@@ -44,7 +44,7 @@ pub enum Arrival {
 }
 
 // A run behind a turn.
-#[derive(Drop)]
+#[derive(Clone, Copy)]
 pub enum Status {
     Running(Start),
     Over,

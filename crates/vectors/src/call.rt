@@ -23,7 +23,7 @@ const MOST: usize = 8;
 // call was refused, 3 where a read declined the byte), the byte, how many zeros or the value's lowest byte (the refusal's number), the
 // cursor, what was passed, the three counts, and what was taken. Of a block's part instead its length and its bytes, the last one lowest;
 // of a run's value that number.
-#[derive(Drop)]
+#[derive(Clone, Copy)]
 pub enum Repeated {
     Packed(u64),
     NoCall,

@@ -8,7 +8,7 @@ use crate::report;
 use crate::tally::{Tally, one_more};
 
 // How far the input is taken in.
-#[derive(Drop)]
+#[derive(Clone, Copy)]
 pub struct Progress {
     // How many bytes of the line buffer hold the line that has no end yet.
     pub filled: usize,

@@ -1,6 +1,8 @@
 // Replays answers of the Rust crate that were recorded as lines of text, and of a plain count or a map where the crate has
 // none: reads them from standard input, asks our library the same, and says on standard output what differs and how much
 // was compared.
+#![tactic(auto)]
+
 mod call;
 mod lines;
 mod packed;
@@ -18,7 +20,7 @@ use libc::{STDERR_FILENO, STDIN_FILENO};
 const LINE_ROOM: usize = 128;
 
 // How a turn of reading ended.
-#[derive(Drop)]
+#[derive(Clone, Copy)]
 enum Turn {
     More(Progress),
     End(Progress),

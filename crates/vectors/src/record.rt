@@ -18,7 +18,7 @@ const RADIX: u64 = 16;
 
 // The parts of a line. `shape` has each field's count of digits in a byte of its own, the last field's lowest, so that
 // one number tells the line's format.
-#[derive(Drop)]
+#[derive(Clone, Copy)]
 pub struct Record {
     pub kind: u8,
     pub count: usize,
@@ -26,7 +26,7 @@ pub struct Record {
     pub values: [u64; FIELDS],
 }
 
-#[derive(Drop)]
+#[derive(Clone, Copy)]
 enum Number {
     Value(u64),
     Nothing,

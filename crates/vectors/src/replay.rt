@@ -37,7 +37,7 @@ pub const ACT: u8 = b'K';
 const ACT_SHAPE: u64 = 0x10_10_10_10;
 
 // Which answer of a record it is.
-#[derive(Drop)]
+#[derive(Clone, Copy)]
 pub enum Answer {
     Full,
     Plain,
@@ -47,7 +47,7 @@ pub enum Answer {
     Act,
 }
 
-#[derive(Drop)]
+#[derive(Clone, Copy)]
 pub struct Difference {
     pub answer: Answer,
     pub recorded: u64,
@@ -55,7 +55,7 @@ pub struct Difference {
 }
 
 // What a line comes to. Of several answers that differ the first is given.
-#[derive(Drop)]
+#[derive(Clone, Copy)]
 pub enum Verdict {
     Same,
     Differs(Difference),

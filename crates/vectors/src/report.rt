@@ -13,7 +13,7 @@ const MOST_TOLD: u64 = 20;
 const TEXT_ROOM: usize = 512;
 
 // A text in the making, so that it is written by one call.
-#[derive(Drop)]
+#[derive(Clone, Copy)]
 struct Text {
     bytes: [u8; TEXT_ROOM],
     used: usize,

@@ -5,13 +5,13 @@ ghost use Rattle.vectors.specs.Lines.{one_more, one_line, of_its_kind, tallied, 
 use crate::record::NO_RECORD;
 use crate::replay::{ACT, CALL, DIGIT, RUN_END, Verdict, WORD};
 
-#[derive(Drop)]
+#[derive(Clone, Copy)]
 pub struct Count {
     pub lines: u64,
     pub differences: u64,
 }
 
-#[derive(Drop)]
+#[derive(Clone, Copy)]
 pub struct Tally {
     pub words: Count,
     pub digits: Count,

@@ -5,7 +5,7 @@ ghost use Rattle.word.specs.ByteSet.{member};
 
 use crate::format_flags::bits_at;
 
-#[derive(Drop)]
+#[derive(Clone, Copy)]
 pub struct ByteSet {
     pub bits: [u64; 4],
 }

@@ -69,7 +69,7 @@ fn entry_of(c: u8) -> u8
 }
 
 // A byte's value, whatever the radix.
-#[derive(Drop)]
+#[derive(Clone, Copy)]
 pub enum DigitValue {
     Value(u8),
     NoValue,

@@ -2,7 +2,7 @@
 ghost use Rattle.std.specs.Prelude.{◌≡◌, ◌==◌};
 ghost use Rattle.word.specs.Error.{number_of};
 
-#[derive(Drop)]
+#[derive(Clone, Copy)]
 pub enum Error {
     Success,
     InvalidMantissaRadix,

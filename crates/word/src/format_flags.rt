@@ -8,7 +8,7 @@ use crate::ascii::is_valid_ascii;
 use crate::digit::char_is_digit_const;
 
 // The word's 128 bits in two halves; bit 0 is the lowest of `lo`, bit 64 the lowest of `hi`.
-#[derive(Drop)]
+#[derive(Clone, Copy)]
 pub struct Format {
     pub lo: u64,
     pub hi: u64,
