@@ -75,9 +75,9 @@ module _ (x : Syntax) (s : List ℕ) (st : State) (r : Reader) where
     go (suc n) (inl e) then = absurd (omega (arith, e))
     go (suc n) (inr fault) then = inr (inl fault)
 
-  pub digit-run-refusal : ((digit_run_of x s st r).refusal ≡ 0) ⊎ RunRefusalKeeps x s st r (digit_run_of x s st r)
+  pub digit_run_refusal : ((digit_run_of x s st r).refusal ≡ 0) ⊎ RunRefusalKeeps x s st r (digit_run_of x s st r)
   unfolding digit_run_of
-  digit-run-refusal = go (eqb (run_refusal x s st r) 0) refl number_of where
+  digit_run_refusal = go (eqb (run_refusal x s st r) 0) refl number_of where
     go :
         (t : Bool) → eqb (run_refusal x s st r) 0 ≡ t → Judged (run_refusal x s st r)
         → ((digit_run_of x s st r).refusal ≡ 0) ⊎ RunRefusalKeeps x s st r (digit_run_of x s st r)

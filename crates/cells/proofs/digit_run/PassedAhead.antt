@@ -57,9 +57,9 @@ module _ (x : Syntax) (s : List ℕ) (r : Reader) (st : State) (at count value t
       let none_passed : place - place + (place - place) ≡ 0 = omega arith in
       rw left (same_but_passed (get_or s place 0) (place - at) _ _ _ (rw over at from-separator) (rw none_passed at from-digit))
 
-  pub running-past : Running x s r st place count value taken (passed + (place - at)) false
+  pub running_past : Running x s r st place count value taken (passed + (place - at)) false
   unfolding reading_with
-  running-past =
+  running_past =
       record {
         worth = now.worth ∙ ap (value_from x.radix value) same.0;
         many = now.many ∙ ap (λ (d : List ℕ). taken + length d) same.0;

@@ -34,9 +34,9 @@ module _ (n : ℕ) (w s : List ℕ) where
   served_by : is_served n w ≡ not unserved
   served_by = rw (not_above n 2) (stops (ltb 2 n) (is_edition (get_or w 7 0)))
 
-  pub here-unserved : unserved ≡ true → Other ≡ here_of n w s
+  pub here_unserved : unserved ≡ true → Other ≡ here_of n w s
   unfolding here_of
-  here-unserved t = rw (served_by, t)
+  here_unserved t = rw (served_by, t)
 
   -- the reader's number, where it is served
   pub low : unserved ≡ false → n ≤ 2
@@ -54,25 +54,25 @@ module _ (n : ℕ) (w s : List ℕ) where
         sym (ap is_consecutive_alone (own_flags_lem (state_in w).format n (low served) small)) ∙ sym Known-alone in
         rw (own, sym known-fit) (stops alone fit)
 
-    pub here-unclear : (alone || not fit) ≡ true → Other ≡ here_of n w s
+    pub here_unclear : (alone || not fit) ≡ true → Other ≡ here_of n w s
     unfolding here_of
-    here-unclear t = rw (served_by, served, clear_by, t)
+    here_unclear t = rw (served_by, served, clear_by, t)
 
     module _ (clear : (alone || not fit) ≡ false) where
       by_place : here_of n w s ≡ under_cursor w s
       unfolding here_of
       by_place = rw (served_by, served, clear_by, clear)
 
-      pub here-outside : length s < get_or w 2 0 → Other ≡ here_of n w s
-      here-outside out = rw (by_place, lt-ltb (length s) (get_or w 2 0) out)
+      pub here_outside : length s < get_or w 2 0 → Other ≡ here_of n w s
+      here_outside out = rw (by_place, lt-ltb (length s) (get_or w 2 0) out)
 
       module _ (within : get_or w 2 0 ≤ length s) where
         pub here_end : length s ≡ get_or w 2 0 → End ≡ here_of n w s
         here_end e = rw (by_place, le-ltb (length s) (get_or w 2 0) within, eq-eqb (length s) (get_or w 2 0) e)
 
         module _ (more : length s ≡ get_or w 2 0 → ⊥) where
-          pub here-separator : get_or s (get_or w 2 0) 0 ≡ digit_separator (state_in w).format → Separator ≡ here_of n w s
-          here-separator e = rw (by_place, le-ltb (length s) (get_or w 2 0) within, ne_eqb (length s) (get_or w 2 0) more, eq-eqb _ _ e)
+          pub here_separator : get_or s (get_or w 2 0) 0 ≡ digit_separator (state_in w).format → Separator ≡ here_of n w s
+          here_separator e = rw (by_place, le-ltb (length s) (get_or w 2 0) within, ne_eqb (length s) (get_or w 2 0) more, eq-eqb _ _ e)
 
-          pub here-byte : (get_or s (get_or w 2 0) 0 ≡ digit_separator (state_in w).format → ⊥) → Byte (get_or s (get_or w 2 0) 0) ≡ here_of n w s
-          here-byte differ = rw (by_place, le-ltb (length s) (get_or w 2 0) within, ne_eqb (length s) (get_or w 2 0) more, ne_eqb _ _ differ)
+          pub here_byte : (get_or s (get_or w 2 0) 0 ≡ digit_separator (state_in w).format → ⊥) → Byte (get_or s (get_or w 2 0) 0) ≡ here_of n w s
+          here_byte differ = rw (by_place, le-ltb (length s) (get_or w 2 0) within, ne_eqb (length s) (get_or w 2 0) more, ne_eqb _ _ differ)

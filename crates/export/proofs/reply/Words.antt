@@ -22,17 +22,17 @@ written_as w reply due same put =
 
 -- a refused call's reply is the same whatever the call answers
 module _ (number : ℕ) (st : State) (old : ℕ) where
-  pub byte-refused : refused_reply number st old ≡ byte_reply old (refused number st)
+  pub byte_refused : refused_reply number st old ≡ byte_reply old (refused number st)
   unfolding byte_reply
-  byte-refused = refl
+  byte_refused = refl
 
-  pub read-refused : refused_reply number st old ≡ read_reply old (refused_read number st)
+  pub read_refused : refused_reply number st old ≡ read_reply old (refused_read number st)
   unfolding read_reply
-  read-refused = refl
+  read_refused = refl
 
-  pub zeros-refused : refused_reply number st old ≡ zeros_reply old (refused_skip number st)
+  pub zeros_refused : refused_reply number st old ≡ zeros_reply old (refused_skip number st)
   unfolding zeros_reply
-  zeros-refused = refl
+  zeros_refused = refl
 
   pub block_refused : (cursor : ℕ) → refused_reply number st old ≡ block_reply old cursor (refused_block number st)
   unfolding block_reply

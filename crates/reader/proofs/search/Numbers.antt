@@ -28,8 +28,8 @@ module _ (base : ℕ) where
       rw (lowest, same_digits l m all.1 all'.1 (omega arith) rest)
 
   -- Two numbers of so many digits are equal exactly when the digits are.
-  pub equal-as-digits : (n : ℕ) (l m : List ℕ) (x y : ℕ) → NumberOf base n l x → NumberOf base n m y → (x ≡ y → l ≡ m) × (l ≡ m → x ≡ y)
-  equal-as-digits n l m x y of-l of-m = (
+  pub equal_as_digits : (n : ℕ) (l m : List ℕ) (x y : ℕ) → NumberOf base n l x → NumberOf base n m y → (x ≡ y → l ≡ m) × (l ≡ m → x ≡ y)
+  equal_as_digits n l m x y of-l of-m = (
     λ same. same_digits l m of-l.below of-m.below (of-l.count ∙ sym of-m.count) (sym of-l.number ∙ same ∙ of-m.number),
     λ same. of-l.number ∙ ap (number_in base) same ∙ sym of-m.number,
   )

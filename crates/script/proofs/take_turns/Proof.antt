@@ -7,7 +7,7 @@ use borrow.Author.Rules.{rules}
 use lib.ListN.{length}
 use Rattle.script.specs.Run.{most_text}
 use Rattle.script.specs.Stream.{Ran, most_turns}
-use Rattle.script.proofs.History.{ran_starts, ran-within, ran-goes-on, ran_over, ran-unread, ran-unwritten, ran_as}
+use Rattle.script.proofs.History.{ran_starts, ran_within, ran_goes_on, ran_over, ran_unread, ran_unwritten, ran_as}
 use Rattle.script.proofs.stream.Pieces.{room_to_read}
 use Rattle.script.proofs.take_turns.Statement.{statement}
 use Rattle.script.proofs.take_turns.Tie as tie
@@ -85,7 +85,7 @@ same-length-6 c = search rules
 returns-2 : tie.Need-returns-2 invariant-loop decreases-loop
 returns-2 c =
     let g = c.before.before.before.before.go_on in
-    ran-unread c.before.before.before.before.before.before.before.before.before.before.before.before.before.before.before.before.before.before.before.before.loop.invariant.4 c.before.before.before.before.before.before.before.before.before.before.before.before.before.before.before.take-turn.ensures.1 c.before.before.before.before.before.before.hand_on.result g.new.1.1.1.0 g.result g.ensures c.enum-told2.given.1
+    ran_unread c.before.before.before.before.before.before.before.before.before.before.before.before.before.before.before.before.before.before.before.before.loop.invariant.4 c.before.before.before.before.before.before.before.before.before.before.before.before.before.before.before.take-turn.ensures.1 c.before.before.before.before.before.before.hand_on.result g.new.1.1.1.0 g.result g.ensures c.enum-told2.given.1
 
 enum-told-3 : tie.Need-enum-told-3 invariant-loop decreases-loop
 enum-told-3 c = search rules
@@ -102,7 +102,7 @@ same-length-9 c = search rules
 returns-3 : tie.Need-returns-3 invariant-loop decreases-loop
 returns-3 c =
     let g = c.before.before.before.before.go_on in
-    ran-unwritten c.before.before.before.before.before.before.before.before.before.before.before.before.before.before.before.before.before.before.before.before.loop.invariant.4 c.before.before.before.before.before.before.before.before.before.before.before.before.before.before.before.take-turn.ensures.1 c.before.before.before.before.before.before.hand_on.result g.new.1.1.1.0 g.result g.ensures
+    ran_unwritten c.before.before.before.before.before.before.before.before.before.before.before.before.before.before.before.before.before.before.before.before.loop.invariant.4 c.before.before.before.before.before.before.before.before.before.before.before.before.before.before.before.take-turn.ensures.1 c.before.before.before.before.before.before.hand_on.result g.new.1.1.1.0 g.result g.ensures
 
 sub-turns : tie.Need-overflow-sub-turns invariant-loop decreases-loop
 sub-turns c = search rules
@@ -119,8 +119,8 @@ loop-again c =
       t.ensures.0,
       search rules,
       search rules,
-      ran-within l.invariant.4 t.ensures.1 c.before.before.before.before.before.before.before.hand_on.result g.new.1.1.1.0 g.result g.ensures _ on (search rules),
-      ran-goes-on l.invariant.4 t.ensures.1 c.before.before.before.before.before.before.before.hand_on.result g.new.1.1.1.0 g.result g.ensures on (omega (arith, l.invariant.5, c.before.before.before.before.before.before.before.before.before.before.before.before.before.before.before.before.before.before.before.before.loop-test.true)),
+      ran_within l.invariant.4 t.ensures.1 c.before.before.before.before.before.before.before.hand_on.result g.new.1.1.1.0 g.result g.ensures _ on (search rules),
+      ran_goes_on l.invariant.4 t.ensures.1 c.before.before.before.before.before.before.before.hand_on.result g.new.1.1.1.0 g.result g.ensures on (omega (arith, l.invariant.5, c.before.before.before.before.before.before.before.before.before.before.before.before.before.before.before.before.before.before.before.before.loop-test.true)),
       omega (arith, l.invariant.5),
     )
 

@@ -30,6 +30,6 @@ all_added c zero end = refl
 all_added c (suc k) end = absurd (omega (arith, end))
 
 module _ (school : ℕ) (f : Format) where
-  pub packed-after : (number told : ℕ) (words : List ℕ) (c : Catalogue)
+  pub packed_after : (number told : ℕ) (words : List ℕ) (c : Catalogue)
       → number ≡ told → words ≡ words_of c → packed_behind number (catalogue_in words) school f ≡ packed_behind told c school f
-  packed-after number told words c same is = rw (same, lent words c is)
+  packed_after number told words c same is = rw (same, lent words c is)

@@ -43,18 +43,18 @@ module _ (f : Format) (accepted : full_check f ≡ 0) where
       (line_holds 3 (valid_control f (digit_separator f)) rest lines_4_on.0).0
 
   -- of no radix up to the larger of the two
-  pub separator-no-digit : (radix : ℕ) → radix ≤ max (mantissa_radix f) (exponent_radix f) → is_digit (digit_separator f) radix ≡ false
+  pub separator_no_digit : (radix : ℕ) → radix ≤ max (mantissa_radix f) (exponent_radix f) → is_digit (digit_separator f) radix ≡ false
   unfolding valid_control is_digit
-  separator-no-digit radix h =
+  separator_no_digit radix h =
       less_below (digit_value (digit_separator f)) radix (max (mantissa_radix f) (exponent_radix f)) h
       (no_digit (max (mantissa_radix f) (exponent_radix f)) (digit_separator f) valid_separator)
 
   lines_12_on : first_failing (consecutive_lines f) ≡ 0
   lines_12_on = (both_hold (flag_lines f) (consecutive_lines f) lines_4_on.1).1
 
-  pub none-alone : (consecutive_alone f 0 ≡ false) × (consecutive_alone f 1 ≡ false) × (consecutive_alone f 2 ≡ false)
+  pub none_alone : (consecutive_alone f 0 ≡ false) × (consecutive_alone f 1 ≡ false) × (consecutive_alone f 2 ≡ false)
   unfolding consecutive_lines
-  none-alone =
+  none_alone =
       let at : (ℕ → Bool) = λ reader. not (consecutive_alone f reader) in
       let a = line_holds 11 (at 0) (line 13 (at 1) ∷ line 14 (at 2) ∷ []) lines_12_on in
       let b = line_holds 12 (at 1) (line 14 (at 2) ∷ []) a.1 in

@@ -7,7 +7,7 @@ use borrow.Author.Tests.{not-true, not-false}
 use lib.ListN.{length, get_or, length-drop}
 use Rattle.script.specs.Record.{kind_of, body_length}
 use Rattle.script.specs.Run.{run_in}
-use Rattle.script.proofs.answer.Records.{Answering, answering_starts, answering-goes-on, due-room, due-whole, nothing_due, not_due, responds_at, least_as}
+use Rattle.script.proofs.answer.Records.{Answering, answering_starts, answering_goes_on, due_room, due_whole, nothing_due, not_due, responds_at, least_as}
 use Rattle.script.proofs.answer.answer.Statement.{statement}
 use Rattle.script.proofs.answer.answer.Tie as tie
 
@@ -58,7 +58,7 @@ respond-requires : tie.Need-respond-requires invariant-loop decreases-loop
 respond-requires c κs =
     let l = c.before.before.before.before.before.before.before.before.before.before.loop in
     let due = c.before.before.before.before.is-due in
-    (l.invariant.kept, omega (arith, due-room _ _ _ _ _ due.result due.ensures (not-false due.result c.before.before.before.if1.false), l.invariant.answers.written))
+    (l.invariant.kept, omega (arith, due_room _ _ _ _ _ due.result due.ensures (not-false due.result c.before.before.before.if1.false), l.invariant.answers.written))
 
 add-used : tie.Need-overflow-add-used invariant-loop decreases-loop
 add-used c = omega arith
@@ -83,8 +83,8 @@ loop-again c =
     let due = c.before.before.before.before.before.before.before.before.before.before.is-due in
     let asked = c.before.before.before.before.before.before.before.before.record-behind in
     let answer = c.before.before.before.before.before.respond.ensures in
-    answering-goes-on a.text.now a.begun a.input.now a.ended a.out.now l.text l.out l.stage l.used l.end l.invariant c.before.before.before.before.before.before.before.before.before.before.before.before.before.before.before.loop-test.true
-    (λ more. omega (arith, due-whole _ _ _ _ _ due.result due.ensures (not-false due.result c.before.before.before.before.before.before.before.before.before.if1.false) more, size, length-drop (l.used + 1) a.input.now))
+    answering_goes_on a.text.now a.begun a.input.now a.ended a.out.now l.text l.out l.stage l.used l.end l.invariant c.before.before.before.before.before.before.before.before.before.before.before.before.before.before.before.loop-test.true
+    (λ more. omega (arith, due_whole _ _ _ _ _ due.result due.ensures (not-false due.result c.before.before.before.before.before.before.before.before.before.if1.false) more, size, length-drop (l.used + 1) a.input.now))
     (least_as a.input.now (l.used + 1) c.min-usize.result body.result (body_length (kind_of n)) size c.min-usize.ensures)
     answer.0
     (responds_at (run_in l.text l.stage) _ n kind.result asked.result kind.ensures asked.ensures answer.1)

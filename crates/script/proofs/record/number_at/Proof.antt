@@ -1,7 +1,7 @@
 -- `script::record::number_at` meets its contract: Numbers.antt has the loop's laws. Assumes nothing.
 use Prim.Native.Nat.{◌+◌, ◌-◌}
 use native.Mathlib.Omega.{arith}
-use Rattle.script.proofs.record.Numbers.{Reading, reading_starts, reading-goes-on, reading-room, reading-ends}
+use Rattle.script.proofs.record.Numbers.{Reading, reading_starts, reading_goes_on, reading_room, reading_ends}
 use Rattle.script.proofs.record.number_at.Statement.{statement}
 use Rattle.script.proofs.record.number_at.Tie as tie
 
@@ -27,7 +27,7 @@ mul-number : tie.Need-overflow-mul-number invariant-loop decreases-loop
 mul-number c =
     let l = c.before.before.loop in
     let d = c.before.before.before in
-    omega (arith, reading-room d.args.body.now d.args.place d.args.size l.number l.left d.requires.0 l.invariant (omega arith) d.requires.1)
+    omega (arith, reading_room d.args.body.now d.args.place d.args.size l.number l.left d.requires.0 l.invariant (omega arith) d.requires.1)
 
 cast-number : tie.Need-overflow-cast-number invariant-loop decreases-loop
 cast-number c =
@@ -39,7 +39,7 @@ add-number : tie.Need-overflow-add-number invariant-loop decreases-loop
 add-number c =
     let l = c.before.before.loop in
     let d = c.before.before.before in
-    omega (arith, c.shared-slice-known.given (d.args.place + (l.left - 1)), reading-room d.args.body.now d.args.place d.args.size l.number l.left d.requires.0 l.invariant (omega arith) d.requires.1)
+    omega (arith, c.shared-slice-known.given (d.args.place + (l.left - 1)), reading_room d.args.body.now d.args.place d.args.size l.number l.left d.requires.0 l.invariant (omega arith) d.requires.1)
 
 loop-less : tie.Need-loop-smaller invariant-loop decreases-loop
 loop-less c = omega arith
@@ -48,13 +48,13 @@ loop-again : tie.Need-loop-preserved invariant-loop decreases-loop
 loop-again c =
     let l = c.before.before.loop in
     let d = c.before.before.before in
-    reading-goes-on d.args.body.now d.args.place d.args.size l.number l.left d.requires.0 l.invariant (omega arith) (omega (arith, c.shared-slice-known.given (d.args.place + (l.left - 1))))
+    reading_goes_on d.args.body.now d.args.place d.args.size l.number l.left d.requires.0 l.invariant (omega arith) (omega (arith, c.shared-slice-known.given (d.args.place + (l.left - 1))))
 
 returns : tie.Need-returns invariant-loop decreases-loop
 returns c =
     let l = c.before.loop in
     let d = c.before.before in
-    reading-ends d.args.body.now d.args.place d.args.size l.number l.left d.requires.0 l.invariant (omega arith)
+    reading_ends d.args.body.now d.args.place d.args.size l.number l.left d.requires.0 l.invariant (omega arith)
 
 pub number-at-spec : {M : Type 1} → statement M
 number-at-spec =

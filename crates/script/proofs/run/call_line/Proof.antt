@@ -1,6 +1,6 @@
 -- `script::run::call_line` meets its contract. Assumes nothing.
 use native.Mathlib.Omega.{arith}
-use Rattle.script.proofs.run.Responses.{call-responds}
+use Rattle.script.proofs.run.Responses.{call_responds}
 use borrow.Author.Rules.{rules}
 use Rattle.script.proofs.run.call_line.Statement.{statement}
 use Rattle.script.proofs.run.call_line.Tie as tie
@@ -34,7 +34,7 @@ returns c =
     let a = c.before.before.before.before.before.before.before.before.before.before.before.args in
     let size = c.before.before.before.before.before.before.before.before.min-usize in
     let reply = c.before.before.before.before.before.before.reply-to in
-    call-responds a.text.now size.result a.n a.state a.reader a.call reply.result size.ensures reply.ensures c.before.before.before.before.reply-line.ensures c.responded.ensures
+    call_responds a.text.now size.result a.n a.state a.reader a.call reply.result size.ensures reply.ensures c.before.before.before.before.reply-line.ensures c.responded.ensures
 
 pub call-line-spec : {M : Type 1} → statement M
 call-line-spec =

@@ -1,14 +1,14 @@
 -- `script::stream::go_on` meets its contract. Assumes nothing.
 use borrow.Author.Rules.{rules}
 use borrow.Author.Tests.{not-true, not-false}
-use Rattle.script.proofs.stream.Pieces.{follows-failed, follows-over, follows-again, follows-read}
+use Rattle.script.proofs.stream.Pieces.{follows_failed, follows_over, follows_again, follows_read}
 use Rattle.script.proofs.stream.go_on.Statement.{statement}
 use Rattle.script.proofs.stream.go_on.Tie as tie
 
 returns : tie.Need-returns
 returns c =
     let d = c.before.before.args in
-    follows-failed d.done d.turn d.ended d.buffer.now (not-true d.done c.if1.true)
+    follows_failed d.done d.turn d.ended d.buffer.now (not-true d.done c.if1.true)
 
 enum_told : tie.Need-enum-told
 enum_told c = search rules
@@ -28,12 +28,12 @@ after-read-requires c κs = search rules
 returns-2 : tie.Need-returns-2
 returns-2 c =
     let d = c.before.before.before.before.args in
-    follows-over d.done d.turn d.ended d.buffer.now (not-false d.done c.before.before.if1.false) c.enum_told.given.1
+    follows_over d.done d.turn d.ended d.buffer.now (not-false d.done c.before.before.if1.false) c.enum_told.given.1
 
 returns-3 : tie.Need-returns-3
 returns-3 c =
     let d = c.before.before.before.before.args in
-    follows-again d.done d.turn d.ended d.buffer.now (not-false d.done c.before.before.if1.false) c.enum-told2.given.1
+    follows_again d.done d.turn d.ended d.buffer.now (not-false d.done c.before.before.if1.false) c.enum-told2.given.1
 
 same_length : tie.Need-same-length
 same_length c = search rules
@@ -42,7 +42,7 @@ returns-4 : tie.Need-returns-4
 returns-4 c =
     let d = c.before.before.before.before.before.before.before.before.before.args in
     let m = c.before.before.before.read_more in
-    follows-read d.done d.turn d.ended d.buffer.now m.new.0 m.result c.after_read.result (not-false d.done c.before.before.before.before.before.before.before.if1.false) c.before.before.before.before.before.enum-told3.given.1 m.ensures c.after_read.ensures
+    follows_read d.done d.turn d.ended d.buffer.now m.new.0 m.result c.after_read.result (not-false d.done c.before.before.before.before.before.before.before.if1.false) c.before.before.before.before.before.enum-told3.given.1 m.ensures c.after_read.ensures
 
 pub go-on-spec : {M : Type 1} → statement M
 go-on-spec =

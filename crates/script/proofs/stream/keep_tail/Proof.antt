@@ -1,7 +1,7 @@
 -- `script::stream::keep_tail` meets its contract: Pieces.antt has the loop's laws. Assumes nothing.
 use Prim.Native.Nat.{◌-◌, ◌+◌}
 use native.Mathlib.Omega.{arith}
-use Rattle.script.proofs.stream.Pieces.{Keeping, keeping_starts, keeping-goes-on, keeping-ends}
+use Rattle.script.proofs.stream.Pieces.{Keeping, keeping_starts, keeping_goes_on, keeping_ends}
 use Rattle.script.proofs.stream.keep_tail.Statement.{statement}
 use Rattle.script.proofs.stream.keep_tail.Tie as tie
 
@@ -36,7 +36,7 @@ loop-again : tie.Need-loop-preserved invariant-loop decreases-loop
 loop-again c =
     let d = c.before.before.before in
     let l = c.before.before.loop in
-    keeping-goes-on d.args.buffer.now d.args.from d.args.end d.requires.1 l.i l.buffer (omega arith) l.invariant
+    keeping_goes_on d.args.buffer.now d.args.from d.args.end d.requires.1 l.i l.buffer (omega arith) l.invariant
 
 same_length : tie.Need-same-length invariant-loop decreases-loop
 same_length c = c.before.loop.invariant.size
@@ -45,7 +45,7 @@ returns : tie.Need-returns invariant-loop decreases-loop
 returns c =
     let d = c.before.before in
     let l = c.before.loop in
-    keeping-ends d.args.buffer.now d.args.from d.args.end d.requires.1 l.i l.buffer (omega arith) l.invariant
+    keeping_ends d.args.buffer.now d.args.from d.args.end d.requires.1 l.i l.buffer (omega arith) l.invariant
 
 pub keep-tail-spec : {M : Type 1} → statement M
 keep-tail-spec =

@@ -5,7 +5,7 @@ use native.Mathlib.Omega.{arith}
 use lib.ListN.{length, drop}
 use borrow.Author.Rules.{rules}
 use Rattle.vectors.specs.Call.{bytes_behind}
-use Rattle.vectors.proofs.call.PackedAnswers.{one-behind, all-behind}
+use Rattle.vectors.proofs.call.PackedAnswers.{one_behind, all_behind_lem}
 use Rattle.vectors.proofs.call.pack_part.Statement.{statement}
 use Rattle.vectors.proofs.call.pack_part.Tie as tie
 
@@ -36,14 +36,14 @@ loop-again c =
     let part = c.before.before.before.before.before.args.part.now in
     let at = c.before.before.before.loop in (
       omega arith,
-      sym (one-behind part at.packed at.i c.with_byte.result (omega arith) c.with_byte.ensures) ∙ at.invariant.1,
+      sym (one_behind part at.packed at.i c.with_byte.result (omega arith) c.with_byte.ensures) ∙ at.invariant.1,
     )
 
 returns : tie.Need-returns invariant-loop decreases-loop
 returns c =
     let part = c.before.before.before.args.part.now in
     let at = c.before.loop in
-    sym (all-behind part at.packed at.i (omega arith)) ∙ at.invariant.1
+    sym (all_behind_lem part at.packed at.i (omega arith)) ∙ at.invariant.1
 
 pub pack-part-spec : {M : Type 1} → statement M
 pack-part-spec =

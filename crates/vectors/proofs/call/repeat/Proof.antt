@@ -1,6 +1,6 @@
 -- `vectors::call::repeat` meets its contract. Assumes nothing.
 use native.Mathlib.Omega.{arith}
-use Rattle.vectors.proofs.call.RecordedCalls.{too_long, same-call, no_reader, asked}
+use Rattle.vectors.proofs.call.RecordedCalls.{too_long, same_call, no_reader, asked}
 use borrow.Author.Rules.{rules}
 use Rattle.vectors.proofs.call.repeat.Statement.{statement}
 use Rattle.vectors.proofs.call.repeat.Tie as tie
@@ -63,7 +63,7 @@ returns-2 c =
     let r = c.before.before.before.before.before.before.who.given.0.0 in
     asked a.what a.bytes a.format _ _ buffer end (omega arith) _ _ c.before.before.before.before.before.before.before.before.before.byte-of2.ensures c.before.before.before.before.before.before.before.before.reader-named.ensures
     r c.answer-to.result c.before.before.before.before.before.before.who.given.1
-    (same-call a.what a.bytes a.format _ _ buffer end r c.answer-to.result _ _ _
+    (same_call a.what a.bytes a.format _ _ buffer end r c.answer-to.result _ _ _
     c.before.before.before.before.byte-of3.ensures c.before.byte-of4.ensures c.before.before.state-of.ensures c.answer-to.ensures)
 
 returns-3 : tie.Need-returns-3

@@ -5,7 +5,7 @@ use native.Mathlib.Omega.{arith}
 use lib.ListN.{length, drop}
 use borrow.Author.Rules.{rules}
 use Rattle.vectors.specs.Lines.{Taking, all_taken}
-use Rattle.vectors.proofs.lines.Chunks.{one-taken, all-taken}
+use Rattle.vectors.proofs.lines.Chunks.{one_taken, all_taken_lem}
 use Rattle.vectors.proofs.lines.take_in.Statement.{statement}
 use Rattle.vectors.proofs.lines.take_in.Tie as tie
 
@@ -39,7 +39,7 @@ loop-again c =
     let here : Taking = record { line = at.line; progress = at.progress } in (
       omega arith,
       search rules,
-      sym (one-taken chunk at.i here _ (omega arith) c.before.before.take-byte.ensures) ∙ at.invariant.2,
+      sym (one_taken chunk at.i here _ (omega arith) c.before.before.take-byte.ensures) ∙ at.invariant.2,
     )
 
 same_length : tie.Need-same-length invariant-loop decreases-loop
@@ -49,7 +49,7 @@ returns : tie.Need-returns invariant-loop decreases-loop
 returns c =
     let chunk = c.before.before.before.before.args.chunk.now in
     let at = c.before.loop in
-    sym (all-taken chunk at.i (record { line = at.line; progress = at.progress }) (omega arith)) ∙ at.invariant.2
+    sym (all_taken_lem chunk at.i (record { line = at.line; progress = at.progress }) (omega arith)) ∙ at.invariant.2
 
 pub take-in-spec : {M : Type 1} → statement M
 take-in-spec =

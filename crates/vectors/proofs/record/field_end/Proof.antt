@@ -4,7 +4,7 @@ use mathlib.Core.Path.{◌≡◌, refl}
 use native.Mathlib.Omega.{arith}
 use lib.ListN.{length, drop}
 use Rattle.vectors.specs.Line.{until_space}
-use Rattle.vectors.proofs.record.Fields.{at-space, before-space, at-end}
+use Rattle.vectors.proofs.record.Fields.{at_space, before_space, at_end}
 use Rattle.vectors.proofs.record.field_end.Statement.{statement}
 use Rattle.vectors.proofs.record.field_end.Tie as tie
 
@@ -25,7 +25,7 @@ shared-slice-read-if1 c = omega arith
 returns : tie.Need-returns invariant-loop decreases-loop
 returns c =
     let line = c.before.before.before.before.args.line.now in
-    let here = at-space line c.before.before.before.loop.end (omega arith) c.if1.true in
+    let here = at_space line c.before.before.before.loop.end (omega arith) c.if1.true in
     (omega (arith, here), omega arith)
 
 add-end : tie.Need-overflow-add-end invariant-loop decreases-loop
@@ -37,13 +37,13 @@ loop-less c = omega arith
 loop-again : tie.Need-loop-preserved invariant-loop decreases-loop
 loop-again c =
     let line = c.before.before.before.before.args.line.now in
-    let on = before-space line c.before.before.before.loop.end (omega arith) c.if1.false in
+    let on = before_space line c.before.before.before.loop.end (omega arith) c.if1.false in
     (omega (arith, on), omega arith)
 
 returns-2 : tie.Need-returns-2 invariant-loop decreases-loop
 returns-2 c =
     let line = c.before.before.args.line.now in
-    let here = at-end line c.before.loop.end (omega arith) in
+    let here = at_end line c.before.loop.end (omega arith) in
     (omega (arith, here), omega arith)
 
 pub field-end-spec : {M : Type 1} → statement M

@@ -5,7 +5,7 @@ use native.Mathlib.Omega.{arith}
 use lib.ListN.{length, drop}
 use borrow.Author.Rules.{rules}
 use Rattle.vectors.specs.Line.{with_fields, record_of}
-use Rattle.vectors.proofs.record.Fields.{first-fields, no_line, next_field, fields-end}
+use Rattle.vectors.proofs.record.Fields.{first_fields, no_line, next_field, fields_end}
 use Rattle.vectors.proofs.record.parse.Statement.{statement}
 use Rattle.vectors.proofs.record.parse.Tie as tie
 
@@ -29,7 +29,7 @@ of-kind-requires : tie.Need-of-kind-requires invariant-loop decreases-loop
 of-kind-requires c κs = search rules
 
 loop-holds : tie.Need-loop-init invariant-loop decreases-loop
-loop-holds c = (omega arith, first-fields c.before.before.before.before.args.line.now _ (omega arith) c.of-kind.ensures)
+loop-holds c = (omega arith, first_fields c.before.before.before.before.args.line.now _ (omega arith) c.of-kind.ensures)
 
 add-field-end : tie.Need-overflow-add-field-end invariant-loop decreases-loop
 add-field-end c = search rules
@@ -64,7 +64,7 @@ loop-again c =
 returns-2 : tie.Need-returns-2 invariant-loop decreases-loop
 returns-2 c =
     let at = c.before.loop in
-    sym (fields-end c.before.before.before.before.before.before.args.line.now at.parsed at.at (omega arith)) ∙ at.invariant.1
+    sym (fields_end c.before.before.before.before.before.before.args.line.now at.parsed at.at (omega arith)) ∙ at.invariant.1
 
 pub parse-spec : {M : Type 1} → statement M
 parse-spec =

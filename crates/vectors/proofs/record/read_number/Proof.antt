@@ -7,7 +7,7 @@ use borrow.Author.Rules.{rules}
 use mir.Val.{Fits}
 use mir.Syntax.{w64}
 use Rattle.vectors.specs.Hex.{read_from}
-use Rattle.vectors.proofs.record.HexNumbers.{empty, long, read-hex, read-end, read-digit, read-other, grows, fits}
+use Rattle.vectors.proofs.record.HexNumbers.{empty, long, read_hex_lem, read_end, read_digit, read_other, grows, fits}
 use Rattle.vectors.proofs.record.read_number.Statement.{statement}
 use Rattle.vectors.proofs.record.read_number.Tie as tie
 
@@ -39,8 +39,8 @@ returns-3 c =
     let digits = c.before.before.before.before.before.before.before.before.args.digits.now in
     let at = c.before.before.before.before.loop in
     let digit = c.before.hex-value in
-    sym (read-hex digits (omega arith) (omega arith) ∙ sym at.invariant.2
-    ∙ read-other digits at.value at.i digit.result (omega arith) digit.ensures c.if3.true)
+    sym (read_hex_lem digits (omega arith) (omega arith) ∙ sym at.invariant.2
+    ∙ read_other digits at.value at.i digit.result (omega arith) digit.ensures c.if3.true)
 
 -- where the digit is one, the number with it fits
 holds : (c : tie.Else3 invariant-loop decreases-loop) →
@@ -68,7 +68,7 @@ loop-again c =
     let digit = c.before.hex-value in (
       omega arith,
       grows at.value at.i digit.result at.invariant.1 c.if3.false,
-      sym (read-digit digits at.value at.i digit.result (omega arith) digit.ensures c.if3.false)
+      sym (read_digit digits at.value at.i digit.result (omega arith) digit.ensures c.if3.false)
           ∙ at.invariant.2,
     )
 
@@ -77,8 +77,8 @@ returns-4 c =
     let digits = c.before.before.before.before.before.args.digits.now in
     let at = c.before.loop in
     sym
-    (read-hex digits (omega arith) (omega arith) ∙ sym at.invariant.2
-    ∙ read-end digits at.value at.i (omega arith))
+    (read_hex_lem digits (omega arith) (omega arith) ∙ sym at.invariant.2
+    ∙ read_end digits at.value at.i (omega arith))
 
 pub read-number-spec : {M : Type 1} → statement M
 read-number-spec =

@@ -1,5 +1,5 @@
 -- `vectors::run_end::long_buffer_of` meets its contract. Assumes nothing.
-use Rattle.vectors.proofs.run_end.LongBuffers.{five-stored}
+use Rattle.vectors.proofs.run_end.LongBuffers.{five_stored}
 use borrow.Author.Rules.{rules}
 use Rattle.vectors.proofs.run_end.long_buffer_of.Statement.{statement}
 use Rattle.vectors.proofs.run_end.long_buffer_of.Tie as tie
@@ -43,7 +43,7 @@ returns c =
       c.before.before.before.with-eight2.ensures,
       c.before.before.before.before.with-eight.ensures,
     )
-    (five-stored c.before.before.before.before.before.args.t1)
+    (five_stored c.before.before.before.before.before.args.t1)
 
 pub long-buffer-of-spec : {M : Type 1} → statement M
 long-buffer-of-spec =

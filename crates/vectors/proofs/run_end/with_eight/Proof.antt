@@ -6,7 +6,7 @@ use native.Mathlib.Omega.{arith}
 use lib.ListN.{drop}
 use lib.Seq.{sets}
 use borrow.Author.Rules.{rules}
-use Rattle.vectors.proofs.run_end.LongBuffers.{one-stored, all-stored}
+use Rattle.vectors.proofs.run_end.LongBuffers.{one_stored, all_stored}
 use Rattle.vectors.proofs.run_end.with_eight.Statement.{statement}
 use Rattle.vectors.proofs.run_end.with_eight.Tie as tie
 
@@ -42,7 +42,7 @@ loop-again c =
     let at = c.before.loop in
     let eight = c.before.before.buffer-of in (
       omega arith,
-      sym (one-stored at.buffer eight.result _ _ at.i eight.ensures c.loop-test.true) ∙ at.invariant.1,
+      sym (one_stored at.buffer eight.result _ _ at.i eight.ensures c.loop-test.true) ∙ at.invariant.1,
     )
 
 returns : tie.Need-returns invariant-loop decreases-loop
@@ -50,7 +50,7 @@ returns c =
     let args = c.before.before.before.args in
     let at = c.before.loop in
     let eight = c.before.before.buffer-of in
-    sym (all-stored at.buffer eight.result _ args.at at.i eight.ensures c.loop-test.false) ∙ at.invariant.1
+    sym (all_stored at.buffer eight.result _ args.at at.i eight.ensures c.loop-test.false) ∙ at.invariant.1
     ∙ ap (sets args.t1 args.at) eight.ensures
 
 pub with-eight-spec : {M : Type 1} → statement M

@@ -3,7 +3,7 @@ use mathlib.Core.Path.{◌∙◌, ap}
 use borrow.Author.Tests.{ne_eqb}
 use Rattle.vectors.specs.declared.call.Repeated.TheVariants.{Packed}
 use Rattle.vectors.specs.Sheets.{act_again}
-use Rattle.vectors.proofs.sheets.Changes.{packed-after}
+use Rattle.vectors.proofs.sheets.Changes.{packed_after}
 use borrow.Author.Rules.{rules}
 use Rattle.vectors.proofs.sheets.act_again.Statement.{statement}
 use Rattle.vectors.proofs.sheets.act_again.Tie as tie
@@ -24,13 +24,13 @@ returns : tie.Need-returns
 unfolding act_again
 returns c =
     let gone = c.before.remove in
-    rw c.before.before.match.keys1 (ap Packed (c.pack-changed.ensures ∙ packed-after _ _ _ _ _ _ gone.ensures.0 gone.ensures.1))
+    rw c.before.before.match.keys1 (ap Packed (c.pack-changed.ensures ∙ packed_after _ _ _ _ _ _ gone.ensures.0 gone.ensures.1))
 
 returns-2 : tie.Need-returns-2
 unfolding act_again
 returns-2 c =
     let more = c.before.add in
-    rw c.before.before.match.keys2 (ap Packed (c.pack-changed2.ensures ∙ packed-after _ _ _ _ _ _ more.ensures.0 more.ensures.1))
+    rw c.before.before.match.keys2 (ap Packed (c.pack-changed2.ensures ∙ packed_after _ _ _ _ _ _ more.ensures.0 more.ensures.1))
 
 returns-3 : tie.Need-returns-3
 unfolding act_again

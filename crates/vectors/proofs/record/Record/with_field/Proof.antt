@@ -1,7 +1,7 @@
 -- `vectors::record::Record::with_field` meets its contract. Assumes nothing.
 use mathlib.Core.Path.{◌∙◌, sym}
 use native.Mathlib.Omega.{arith}
-use Rattle.vectors.proofs.record.Fields.{no_room, no_field, no-space, with_number}
+use Rattle.vectors.proofs.record.Fields.{no_room, no_field, no_space, with_number}
 use borrow.Author.Rules.{rules}
 use Rattle.vectors.proofs.record.Record.with_field.Statement.{statement}
 use Rattle.vectors.proofs.record.Record.with_field.Tie as tie
@@ -25,7 +25,7 @@ none-requires-3 : tie.Need-none-requires-3
 none-requires-3 c κs = search rules
 
 returns-3 : tie.Need-returns-3
-returns-3 c = c.none3.ensures ∙ no-space _ c.before.before.before.before.before.before.args.field.now (omega arith) (omega arith) c.before.if3.true
+returns-3 c = c.none3.ensures ∙ no_space _ c.before.before.before.before.before.before.args.field.now (omega arith) (omega arith) c.before.if3.true
 
 sub-read-number : tie.Need-overflow-sub-read-number
 sub-read-number c = search rules

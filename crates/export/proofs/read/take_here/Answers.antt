@@ -1,0 +1,6 @@
+-- `export::read::take_here` meets its contract. Assumes nothing.
+use mathlib.Core.Path.{refl}
+use Rattle.export.proofs.read.take_here.Goals as goal
+
+pub returns : goal.returns
+returns c = rw (c.put_at.ensures, c.wide-byte.ensures) (refl, (refl, refl))
