@@ -1,7 +1,7 @@
 -- The block take: what it answers where it is refused and where it is not, and which part of the buffer its block is. Assumes nothing.
-use Rattle.std.proofs.Common.{◌≡◌, ℕ, ◌+◌, ◌-◌, ◌≤◌, min, Bool, true, false, eqb, List, [], length, take, drop, sym, refl, ap, ◌∙◌, arith, MutBor, eqb-true}
+use Rattle.std.proofs.Common.{◌≡◌, ℕ, ◌+◌, ◌-◌, ◌≤◌, min, Bool, true, false, eqb, List, [], length, take, drop, sym, refl, ap, ◌∙◌, arith, eqb-true}
 use mathlib.Core.Option.{some, none}
-use base.Fml.{GName}
+use Rattle.std.specs.Borrow.{Bor}
 use Rattle.reader.specs.declared.state.Reader.{Reader}
 use Rattle.reader.specs.declared.state.State.{State}
 use Rattle.reader.specs.declared.state.Refusal.{Refusal}
@@ -72,13 +72,13 @@ module _ (m : Reading) (s : List ℕ) (st : State) (r : Reader) (n : ℕ) where
       none_start : 0 ≡ part_start st.cursor (take_n_of m s st r n).block
       none_start = rw (sym bytes, nothing)
 
--- a sub-slice under some ghost name
-abbrev pub sub : MutBor (List ℕ) → ℕ → List ℕ → GName → MutBor (List ℕ)
-sub lent start contents ghost = record { ref_ptr = (lent.ref_ptr.0, start + lent.ref_ptr.1); ghost_name = ghost; now = contents }
+-- a sub-slice
+abbrev pub sub : Bor (List ℕ) → ℕ → List ℕ → Bor (List ℕ)
+sub lent start contents = record { ref_ptr = (lent.ref_ptr.0, start + lent.ref_ptr.1); now = contents }
 
 -- the lent slice between the two cursors is the part of a block; where there is none, its empty part at the start is
-module _ (lent : MutBor (List ℕ)) (st : State) (r : Reader) (n : ℕ) (a : BlockAnswer) (e : block_outcome_of a ≡ take_n_of (reading_for st r) lent.now st r n) (ghost : GName) where
-  pub part_of_block : a.report.block ≡ Taken → BlockPart lent st r n (sub lent st.cursor (take (a.state.cursor - st.cursor) (drop st.cursor lent.now)) ghost)
+module _ (lent : Bor (List ℕ)) (st : State) (r : Reader) (n : ℕ) (a : BlockAnswer) (e : block_outcome_of a ≡ take_n_of (reading_for st r) lent.now st r n) where
+  pub part_of_block : a.report.block ≡ Taken → BlockPart lent st r n (sub lent st.cursor (take (a.state.cursor - st.cursor) (drop st.cursor lent.now)))
   part_of_block taken =
       let m = reading_for st r in
       record {
@@ -87,7 +87,7 @@ module _ (lent : MutBor (List ℕ)) (st : State) (r : Reader) (n : ℕ) (a : Blo
         bytes = part_taken m lent.now st r n a e taken;
       }
 
-  pub part_of_none : block_bytes a.report.block a.report.taken ≡ none → BlockPart lent st r n (sub lent 0 [] ghost)
+  pub part_of_none : block_bytes a.report.block a.report.taken ≡ none → BlockPart lent st r n (sub lent 0 [])
   part_of_none nothing =
       let m = reading_for st r in
       record {

@@ -8,10 +8,6 @@ use Rattle.reader.proofs.iterator.ZeroRuns.{skipping_taken}
 use Rattle.reader.proofs.skip.LoopState.{standing_counts}
 use Rattle.reader.proofs.iterator.take_separator_zeros.Goals as goal
 
--- a turn that reads a zero, or a run of them at once
-zero_found : (c : tie.Else1 invariant-loop decreases-loop) → zero_at c.before.before.before.before.before.before.args.s.now c.before.before.landing.result ≡ true
-zero_found c = sym c.before.is-zero-at.ensures ∙ not-false _ c.if1.false
-
 pub loop-syntax-init : goal.loop-syntax-init
 unfolding reading_with
 loop-syntax-init c =
@@ -31,7 +27,7 @@ overflow_add-passed c =
 
 pub past_taken-at-requires : goal.past_taken-at-requires
 past_taken-at-requires c =
-    let there = zero_there c.args.s.now c.landing-place.result (zero_found c) in
+    let there = zero_there c.args.s.now c.landing-place.result (sym c.is_zero_at.ensures ∙ not-false _ c.if-not-is_zero_at.false-raw) in
     (there.0, λ e. eqb-true _ 48 there.1 ∙ sym c.requires.1)
 
 pub overflow_sub-more : goal.overflow_sub-more
@@ -52,7 +48,7 @@ overflow_add-taken c =
 pub loop-syntax-smaller : goal.loop-syntax-smaller
 loop-syntax-smaller c =
     let s = c.args.s.now in
-    let there = zero_there s c.landing-place.result (zero_found c) in
+    let there = zero_there s c.landing-place.result (sym c.is_zero_at.ensures ∙ not-false _ c.if-not-is_zero_at.false-raw) in
     omega (arith, c.past_taken-at.ensures.1, c.landing-place.ensures.0, there.0)
 
 pub loop-syntax-preserved : goal.loop-syntax-preserved
@@ -60,7 +56,7 @@ unfolding reading_with
 loop-syntax-preserved c =
     let a = c.args in
     skipping_taken (reading_with a.syntax) a.s.now a.reader a.state c.requires.0 c.requires.1 c.loop-syntax.at c.loop-syntax.count c.loop-syntax.taken c.loop-syntax.passed c.landing-place.result c.loop-syntax.invariant
-    c.landing-place.ensures.0 (zero_found c) _ c.past_taken-at.ensures.0
+    c.landing-place.ensures.0 (sym c.is_zero_at.ensures ∙ not-false _ c.if-not-is_zero_at.false-raw) _ c.past_taken-at.ensures.0
 
 pub returns : goal.returns
 unfolding reading_with

@@ -4,25 +4,15 @@ use Rattle.reader.specs.Reading.{reading_for}
 use Rattle.reader.proofs.skip.Blocks.{part_within, part_of_block, part_of_none}
 use Rattle.reader.proofs.skip.take_n_part.Goals as goal
 
--- FIXME part-result-start-2 : tie.Need-slice-bounds-result-start-2
--- FIXME part-result-start-2 c = search rules
-
--- FIXME part-result-end-2 : tie.Need-slice-bounds-result-end-2
--- FIXME part-result-end-2 c = search rules
-
--- FIXME part-result-start-3 : tie.Need-slice-bounds-result-start-3
--- FIXME part-result-start-3 c = search rules
-
--- FIXME part-result-end-3 : tie.Need-slice-bounds-result-end-3
--- FIXME part-result-end-3 c = search rules
-
 pub slice_bounds-result-count : goal.slice_bounds-result-count
 slice_bounds-result-count c =
     let a = c.args in
     omega (arith, (part_within (reading_for a.state a.reader) a.s.now a.state a.reader a.n c.take_n-answer.result c.take_n-answer.ensures c.in-Taken.is).0)
 
 pub slice_bounds-result-start : goal.slice_bounds-result-start
-slice_bounds-result-start c = sub-result c
+slice_bounds-result-start c =
+    let a = c.args in
+    omega (arith, (part_within (reading_for a.state a.reader) a.s.now a.state a.reader a.n c.take_n-answer.result c.take_n-answer.ensures c.in-Taken.is).0)
 
 pub slice_bounds-result-end : goal.slice_bounds-result-end
 slice_bounds-result-end c =
@@ -32,14 +22,14 @@ slice_bounds-result-end c =
 pub returns-in-Taken : goal.returns-in-Taken
 returns-in-Taken c =
     let a = c.args in
-    part_of_block a.s a.state a.reader a.n c.take_n-answer.result c.take_n-answer.ensures _ c.in-Taken.is
+    part_of_block a.s a.state a.reader a.n c.take_n-answer.result c.take_n-answer.ensures c.in-Taken.is
 
 pub returns-in-None : goal.returns-in-None
 returns-in-None c =
     let a = c.args in
-    part_of_none a.s a.state a.reader a.n c.take_n-answer.result c.take_n-answer.ensures _ (rw c.in-None.is)
+    part_of_none a.s a.state a.reader a.n c.take_n-answer.result c.take_n-answer.ensures (rw c.in-None.is)
 
 pub returns-in-Refused : goal.returns-in-Refused
 returns-in-Refused c =
     let a = c.args in
-    part_of_none a.s a.state a.reader a.n c.take_n-answer.result c.take_n-answer.ensures _ (rw c.in-Refused.is)
+    part_of_none a.s a.state a.reader a.n c.take_n-answer.result c.take_n-answer.ensures (rw c.in-Refused.is)
