@@ -6,10 +6,14 @@ use Rattle.catalogue.proofs.acts.Answers.{refused_zero, refused_listed, refused_
 use Rattle.catalogue.proofs.acts.add_checked.Goals as goal
 
 pub returns-then-school-eq0 : goal.returns-then-school-eq0
-returns-then-school-eq0 c = refused_add_keeps _ c.requires.0 _ _ _ (refused_zero _ _ _ c.requires.1 c.if-school-eq0.true)
+returns-then-school-eq0 c =
+    let kept = refused_add_keeps c.args.words.now c.requires.0 c.args.school c.args.format _ (refused_zero _ _ _ c.requires.1 c.if-school-eq0.true) in
+    record { number = kept.0; written = kept.1 }
 
 pub returns-then-known : goal.returns-then-known
-returns-then-known c = refused_add_keeps _ c.requires.0 _ _ _ (refused_listed _ _ _ c.requires.1 c.if-school-eq0.false (sym c.stands_at-known.ensures ∙ c.if-known.true))
+returns-then-known c =
+    let kept = refused_add_keeps c.args.words.now c.requires.0 c.args.school c.args.format _ (refused_listed _ _ _ c.requires.1 c.if-school-eq0.false (sym c.stands_at-known.ensures ∙ c.if-known.true)) in
+    record { number = kept.0; written = kept.1 }
 
 pub returns-then-len-lt64 : goal.returns-then-len-lt64
 returns-then-len-lt64 c =
@@ -20,4 +24,6 @@ returns-then-len-lt64 c =
     }
 
 pub returns : goal.returns
-returns c = refused_add_keeps _ c.requires.0 _ _ _ (refused_full _ _ _ c.requires.1 c.if-school-eq0.false (sym c.stands_at-known.ensures ∙ c.if-known.false) (omega arith))
+returns c =
+    let kept = refused_add_keeps c.args.words.now c.requires.0 c.args.school c.args.format _ (refused_full _ _ _ c.requires.1 c.if-school-eq0.false (sym c.stands_at-known.ensures ∙ c.if-known.false) (omega arith)) in
+    record { number = kept.0; written = kept.1 }

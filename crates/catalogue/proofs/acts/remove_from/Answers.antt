@@ -21,4 +21,6 @@ returns-then-found c =
     }
 
 pub returns : goal.returns
-returns c = refused_remove_keeps _ c.requires _ (sym c.stands_at-found.ensures ∙ c.if-found.false)
+returns c =
+    let kept = refused_remove_keeps _ c.requires _ (sym c.stands_at-found.ensures ∙ c.if-found.false) in
+    record { number = kept.0; written = kept.1 }
