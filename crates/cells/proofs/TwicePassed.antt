@@ -2,32 +2,21 @@
 -- that one too. By 01's rules it does so only without the consecutive flag, and only in front of a digit: so behind a peek that saw a digit
 -- a digit is taken, by every word. Assumes nothing.
 use mathlib.Core.Path.{◌≡◌, ◌∙◌, refl, sym, ap}
-use mathlib.Core.Bool.{Bool, true, false, cond, false≢true}
+use mathlib.Core.Bool.{Bool, true, false, false≢true}
 use mathlib.Core.List.{List, head?}
-use mathlib.Core.Option.{Option, some, none}
-use Prim.Native.Nat.{ℕ, suc, ◌+◌, ◌≤◌, ◌<◌}
+use mathlib.Core.Option.{Option, some}
+use Prim.Native.Nat.{ℕ, ◌+◌}
 use native.Mathlib.Nat.{add-zero}
 use native.Mathlib.Numerals.{add-one}
-use native.Mathlib.Omega.{arith}
-use borrow.Author.Tests.{eqb-true}
-use lib.Dec.{eqb}
-use lib.ListN.{length, drop, get_or}
+use lib.ListN.{drop, get_or}
 use Rattle.reader.specs.declared.rule.Flags.{Flags}
 use Rattle.reader.specs.declared.rule.Neighbour.{Neighbour}
-use Rattle.reader.specs.declared.state.Reader.{Reader}
-use Rattle.reader.specs.declared.state.State.{State}
 use Rattle.reader.specs.declared.passing.Syntax.{Syntax}
 use Rattle.reader.specs.Rule.{rule_of, first, later}
 use Rattle.reader.specs.Place.{is_separator, byte_at, before, after, nearest}
 use Rattle.reader.specs.Reading.{Reading, reading_with, neighbour_of, previous, following, may_pass, passed_at}
-use Rattle.reader.specs.State.{count_of, moved_to}
-use Rattle.reader.specs.Answer.{Outcome}
-use Rattle.reader.specs.Calls.{refusal_of, peeked, peek_of, take_byte, next_of}
-use Rattle.reader.proofs.passing.Places.{byte_here, byte_inside, none_there, before_next, run_byte}
-use Rattle.reader.proofs.passing.Passed.{PassesHere, passes_here, passes_none, passes_one, passes_run, separator_is, other_differs}
-use Rattle.reader.proofs.state.Refusals.{within, still_admitted, peek_admitted, turned_away}
-use Rattle.reader.proofs.state.Updates.{count_moved}
-use Rattle.reader.proofs.skip.Takes.{peek_byte}
+use Rattle.reader.proofs.passing.Places.{byte_here, byte_inside, before_next, run_byte}
+use Rattle.reader.proofs.passing.Passed.{passes_here, passes_none, passes_one, passes_run, separator_is, other_differs}
 
 -- a neighbour that is a separator and a digit
 abbrev both : Neighbour

@@ -1,7 +1,7 @@
 -- Of a run that reaches the end of a cell, the digits are the cell's bytes that are no separators: for numbers from cells that are longer
 -- than 64 bits hold. Assumes nothing.
 use mathlib.Core.Path.{◌≡◌, ◌∙◌, refl, sym, ap}
-use mathlib.Core.Bool.{Bool, true, false, cond, false≢true}
+use mathlib.Core.Bool.{Bool, true, false, false≢true}
 use mathlib.Core.List.{List, [], ◌∷◌, ◌++◌, append-nil, append_assoc}
 use mathlib.Core.Logic.{⊎_elim}
 use mathlib.Core.Option.{Option, some, none}

@@ -14,7 +14,7 @@ use Rattle.word.specs.Word.{flag, digit_separator, mantissa_radix}
 use Rattle.word.specs.Check.{line, first_failing}
 use Rattle.reader.specs.declared.state.Reader.{Reader}
 use Rattle.reader.specs.declared.passing.Syntax.{Syntax}
-use Rattle.reader.specs.Reading.{flags_of, syntax_of}
+use Rattle.reader.specs.Reading.{syntax_of}
 use Rattle.reader.specs.State.{fresh_of, is_counted}
 use Rattle.reader.specs.Calls.{consecutive_number}
 use Rattle.reader.specs.ZeroSkip.{skip_refusal}

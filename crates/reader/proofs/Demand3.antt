@@ -1,15 +1,14 @@
 -- DEMAND 3, for every sheet whose word the full check accepts. Nothing else is assumed.
-use Rattle.std.proofs.Common.{◌≡◌, ℕ, ◌<◌, Bool, true, false, cond, not, ◌&&◌, List, sym, refl, ap, ◌∙◌, arith}
+use Rattle.std.proofs.Common.{◌≡◌, ℕ, ◌<◌, Bool, true, false, not, ◌&&◌, List, sym, refl, arith}
 use mathlib.Core.Option.{some}
 use Rattle.word.specs.Word.{flag, digit_separator, mantissa_radix}
 use Rattle.word.specs.Check.{consecutive_alone, full_check}
 use Rattle.word.proofs.feature_format.Accepted.{separator_no_digit, none_alone}
 use Rattle.reader.specs.declared.state.Reader.{Reader}
 use Rattle.reader.specs.declared.state.Reader.TheVariants.{Integer, Fraction, Exponent, Special}
-use Rattle.reader.specs.declared.rule.Neighbour.{Neighbour}
 use Rattle.reader.specs.State.{Sheet}
 use Rattle.reader.specs.Place.{is_separator}
-use Rattle.reader.specs.Reading.{Reading, flags_of, syntax_of, syntax_on, reading_with, reading_on, is_consecutive_alone, neighbour_of}
+use Rattle.reader.specs.Reading.{flags_of, syntax_of, syntax_on, reading_with, reading_on, neighbour_of}
 use Rattle.reader.specs.Calls.{line_consecutive}
 use Rattle.reader.specs.History.{Call}
 use Rattle.reader.specs.ByteTally.{NeverRefusedBy, trace_fresh, ByteTally}

@@ -17,7 +17,7 @@ use Rattle.reader.specs.declared.skip.Seen.{Seen}
 use Rattle.reader.specs.declared.skip.Seen.TheVariants as sight
 use Rattle.reader.specs.declared.skip.Answer.{Answer}
 use Rattle.reader.specs.declared.skip.Peeked.{Peeked}
-use Rattle.reader.specs.Place.{is_separator, byte_at}
+use Rattle.reader.specs.Place.{byte_at}
 use Rattle.reader.specs.Reading.{Reading, syntax_for, syntax_on, reading_with, reading_for, has_any_flag, passed_at}
 use Rattle.reader.specs.State.{Sheet, sheet_of, count_of, moved_to}
 use Rattle.reader.specs.Code.TakeSums.{with_count}

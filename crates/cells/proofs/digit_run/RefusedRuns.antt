@@ -1,11 +1,10 @@
 -- A separator that was refused and taken, with the consecutive flag, by a reader that has counted: the next one of its run is refused
 -- too, so that the loop need not ask. Assumes nothing.
 use mathlib.Core.Path.{◌≡◌, ◌∙◌, refl, sym, ap}
-use mathlib.Core.Bool.{Bool, true, false, not, ◌&&◌}
+use mathlib.Core.Bool.{Bool, true, false, not}
 use mathlib.Core.List.{List}
-use Prim.Native.Nat.{ℕ, suc, ◌+◌, ◌≤◌, ◌<◌}
+use Prim.Native.Nat.{ℕ, suc, ◌+◌, ◌<◌}
 use native.Mathlib.Omega.{arith}
-use native.Mathlib.Numerals.{add-one}
 use borrow.Author.Tests.{eqb-true, eqb-false, ne_eqb, not-true, ltb-true, ltb-false}
 use lib.Dec.{eqb, ltb}
 use lib.ListN.{length, drop, get_or}
@@ -14,7 +13,7 @@ use Rattle.reader.specs.declared.state.Reader.{Reader}
 use Rattle.reader.specs.declared.state.State.{State}
 use Rattle.reader.specs.declared.passing.Syntax.{Syntax}
 use Rattle.reader.specs.Place.{is_separator, separator_run}
-use Rattle.reader.specs.Reading.{Reading, reading_with, may_pass, passed_at}
+use Rattle.reader.specs.Reading.{reading_with, passed_at}
 use Rattle.reader.proofs.passing.Passed.{separator_is, passes_none}
 use Rattle.reader.proofs.passing.Landings.{stays_on_other, stays_at_end}
 use Rattle.reader.proofs.passing.RefusedRuns.{refused-first, refused_next}

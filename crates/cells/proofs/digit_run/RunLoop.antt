@@ -1,28 +1,24 @@
 -- The loop of a digit run: its numbers stand for the digits taken so far, and the run goes on from them. Over every word and radix.
 -- Assumes nothing.
-use mathlib.Core.Path.{◌≡◌, ◌∙◌, refl, sym, ap}
-use mathlib.Core.Bool.{Bool, true, false, cond, not, ◌&&◌}
-use mathlib.Core.List.{List, [], ◌∷◌}
-use mathlib.Core.Option.{Option, some, none}
-use mathlib.Core.Logic.{⊎_elim}
-use Prim.Native.Nat.{ℕ, zero, suc, ◌+◌, ◌-◌, ◌≤◌, ◌<◌, ◌^◌}
-use native.Mathlib.Nat.{eq-zero-or-pos}
+use mathlib.Core.Path.{◌≡◌, ◌∙◌, refl, ap}
+use mathlib.Core.Bool.{Bool, true, false}
+use mathlib.Core.List.{List, []}
+use Prim.Native.Nat.{ℕ, suc, ◌+◌, ◌-◌, ◌≤◌, ◌<◌, ◌^◌}
 use native.Mathlib.Omega.{arith}
-use borrow.Author.Tests.{lt-ltb, le-ltb, eqb-true, eqb-false, ne_eqb, eq-eqb, not-true}
-use lib.Dec.{eqb, ltb}
-use lib.ListN.{length, get_or}
+use borrow.Author.Tests.{lt-ltb, le-ltb, ne_eqb}
+use lib.Dec.{eqb}
+use lib.ListN.{length}
 use Rattle.word.specs.Digit.{digit_value}
-use Rattle.word.proofs.Lines.{line_first}
 use Rattle.reader.specs.declared.state.Reader.{Reader}
 use Rattle.reader.specs.declared.state.State.{State}
 use Rattle.reader.specs.declared.passing.Syntax.{Syntax}
 use Rattle.reader.specs.Reading.{Reading, reading_with, passed_at}
-use Rattle.reader.specs.State.{count_of, count_sum}
+use Rattle.reader.specs.State.{count_of}
 use Rattle.reader.specs.ZeroSkip.{skip_refusal}
 use Rattle.reader.proofs.state.Refusals.{within, skip_admits}
 use Rattle.reader.proofs.state.Updates.{state_at, own_count_lem, sum_on}
 use Rattle.cells.specs.Value.{with_digit, value_from, value_of}
-use Rattle.cells.specs.DigitRun.{Digits, RunOutcome, refused_run, read_run, digits_from, taken_run, run_refusal, digit_run_of}
+use Rattle.cells.specs.DigitRun.{Digits, refused_run, taken_run, run_refusal, digit_run_of}
 use Rattle.cells.specs.Code.Steps.{Stands, run_at, digit_then, Takes, Ends, still_refused, ended_run}
 use Rattle.cells.proofs.value.Growing.{stays_above, radix_above}
 use Rattle.cells.proofs.digit_run.RefusedRuns.{next_refused}

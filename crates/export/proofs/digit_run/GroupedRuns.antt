@@ -1,5 +1,5 @@
 -- The loop over the digits of a grouped cell has the numbers of a digit run: for `grouped_run`. Assumes nothing.
-use mathlib.Core.Path.{◌≡◌, ◌∙◌, refl, sym, ap}
+use mathlib.Core.Path.{◌≡◌, refl, sym}
 use mathlib.Core.Bool.{Bool, true, false, cond, and-eq-true_iff}
 use mathlib.Core.List.{List}
 use mathlib.Core.Option.{some, none}

@@ -1,5 +1,5 @@
 -- The words that are written where a grouped cell's digits go by numbers are those of the run: for `pawhetino_digit_run`. Assumes nothing.
-use mathlib.Core.Path.{◌≡◌, ◌∙◌, refl, sym}
+use mathlib.Core.Path.{◌≡◌, refl, sym}
 use mathlib.Core.Bool.{true, cond}
 use mathlib.Core.List.{List, [], ◌∷◌}
 use mathlib.Core.Option.{some}
@@ -37,8 +37,8 @@ module _ (n : ℕ) (w s : List ℕ) (low : n ≤ 2) (edition : get_or w 7 0 ≡ 
 
     pub run_written : (old : List ℕ)
         → record {
-            number : 0 ≡ (digit_run_by n w s).refusal;
-            moved : (get_or w 0 0 ∷ get_or w 1 0 ∷ at ∷ cond (eqb n 0) count 0 ∷ cond (eqb n 1) count 0 ∷ cond (eqb n 2) count 0 ∷ get_or w 6 0 ∷ get_or w 7 0 ∷ []) ≡ state_words w (digit_run_by n w s).state;
-            written : (1 ∷ value ∷ count ∷ passed ∷ []) ≡ value_words old (digit_run_by n w s);
-          }
+          number : 0 ≡ (digit_run_by n w s).refusal;
+          moved : (get_or w 0 0 ∷ get_or w 1 0 ∷ at ∷ cond (eqb n 0) count 0 ∷ cond (eqb n 1) count 0 ∷ cond (eqb n 2) count 0 ∷ get_or w 6 0 ∷ get_or w 7 0 ∷ []) ≡ state_words w (digit_run_by n w s).state;
+          written : (1 ∷ value ∷ count ∷ passed ∷ []) ≡ value_words old (digit_run_by n w s);
+        }
     run_written old = rw read (record { number = refl; moved = end_words_lem n low w (fresh_of f) at count refl refl refl; written = refl })

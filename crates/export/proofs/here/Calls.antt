@@ -1,27 +1,25 @@
 -- What the calls of one byte answer where a reader that counts sees a byte that is no separator, or the end, and the words that they
 -- write: for their quick ways. Assumes nothing.
 use mathlib.Core.Path.{◌≡◌, ◌∙◌, refl, sym, ap}
-use mathlib.Core.Bool.{Bool, true, false, cond, not, ◌&&◌}
+use mathlib.Core.Bool.{Bool, true, false, cond, ◌&&◌}
 use mathlib.Core.List.{List, [], ◌∷◌}
 use mathlib.Core.Option.{Option, some, none}
-use Prim.Native.Nat.{ℕ, zero, suc, ◌+◌, ◌/◌, ◌^◌, ◌<◌, ◌≤◌}
-use native.Mathlib.Omega.{arith}
-use lib.Dec.{eqb}
+use Prim.Native.Nat.{ℕ, zero, suc, ◌+◌, ◌/◌, ◌^◌, ◌<◌}
 use lib.ListN.{length, get_or}
-use borrow.Author.Tests.{le-leb, ne_eqb}
+use borrow.Author.Tests.{le-leb}
 use Rattle.word.specs.declared.format_flags.Format.{Format}
 use Rattle.word.specs.Word.{mantissa_radix}
 use Rattle.word.specs.Digit.{is_digit}
 use Rattle.reader.specs.declared.state.Reader.{Reader}
 use Rattle.reader.specs.declared.state.State.{State}
 use Rattle.reader.specs.Reading.{Reading, flags_of, syntax_of, syntax_on, reading_with, reading_for, has_any_flag, is_consecutive_alone}
-use Rattle.reader.specs.State.{count_sum, moved_to, counted_by, is_counted}
-use Rattle.reader.specs.Answer.{Outcome, SkipOutcome}
-use Rattle.reader.specs.Repeat.{until_none, repeated}
+use Rattle.reader.specs.State.{count_sum, moved_to, counted_by}
+use Rattle.reader.specs.Answer.{Outcome}
+use Rattle.reader.specs.Repeat.{until_none}
 use Rattle.reader.specs.Calls.{peek_of, next_of, taken_from, read_if_of}
 use Rattle.reader.specs.ZeroSkip.{is_zero, skip_refusal, zero_read_of, skip_zeros_of}
 use Rattle.export.specs.State.{state_in, state_words, reader_on}
-use Rattle.export.specs.Answer.{byte_words, zeros_words}
+use Rattle.export.specs.Answer.{byte_words}
 use Rattle.export.specs.Calls.{peeked_by, taken_by, read_by, skipped_by}
 use Rattle.export.specs.Code.Here.{own_flags, words_at}
 use Rattle.export.proofs.here.CountedReaders.{counted_reader, named_on, own_flags_lem, at_words}

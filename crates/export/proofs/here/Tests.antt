@@ -1,13 +1,12 @@
 -- What is under the cursor, by the tests that the code makes, in their order: for `found_here`. Assumes nothing.
 use mathlib.Core.Path.{◌≡◌, ◌∙◌, refl, sym, ap}
-use mathlib.Core.Bool.{Bool, true, false, cond, not, ◌&&◌, ◌||◌}
+use mathlib.Core.Bool.{Bool, true, false, not, ◌&&◌, ◌||◌}
 use mathlib.Core.List.{List}
 use Prim.Native.Nat.{ℕ, ◌+◌, ◌/◌, ◌^◌, ◌<◌, ◌≤◌}
-use lib.Dec.{eqb, leb, ltb}
+use lib.Dec.{leb, ltb}
 use lib.ListN.{length, get_or}
 use borrow.Author.Tests.{le-leb, lt-leb, ltb-true, ltb-false, lt-ltb, le-ltb, eq-eqb, ne_eqb, leb-true}
 use Rattle.word.specs.Word.{digit_separator}
-use Rattle.reader.specs.declared.rule.Flags.{Flags}
 use Rattle.reader.specs.Reading.{flags_at, is_consecutive_alone}
 use Rattle.export.specs.declared.here.Here.TheVariants.{Byte, End, Separator, Other}
 use Rattle.export.specs.State.{state_in, is_edition}

@@ -1,20 +1,19 @@
 -- At a separator right before a digit a reader that has counted and may pass between digits passes it alone, and sees the digit: the words
 -- that are written there are those of the peek and of the take. Assumes nothing.
-use mathlib.Core.Path.{◌≡◌, ◌∙◌, refl, sym, ap}
+use mathlib.Core.Path.{◌≡◌, ◌∙◌, refl, ap}
 use mathlib.Core.Bool.{Bool, true, false, cond, not, ◌&&◌, ◌||◌}
-use mathlib.Core.List.{List, [], ◌∷◌}
+use mathlib.Core.List.{List}
 use mathlib.Core.Option.{some}
-use Prim.Native.Nat.{ℕ, ◌+◌, ◌<◌, ◌≤◌}
+use Prim.Native.Nat.{ℕ, ◌+◌, ◌<◌}
 use native.Mathlib.Omega.{arith}
 use lib.Dec.{eqb, leb}
 use lib.ListN.{length, get_or}
-use borrow.Author.Tests.{le-leb, leb-false, eqb-false, ne_eqb, not-false}
+use borrow.Author.Tests.{le-leb, leb-false, eqb-false, not-false}
 use Rattle.word.specs.declared.format_flags.Format.{Format}
 use Rattle.word.specs.Word.{flag, digit_separator, mantissa_radix}
 use Rattle.word.specs.Digit.{is_digit}
 use Rattle.reader.specs.declared.state.Reader.{Reader}
-use Rattle.reader.specs.declared.state.State.{State}
-use Rattle.reader.specs.Reading.{flags_at, flags_of, syntax_of, syntax_on, reading_with, reading_for, has_any_flag, is_consecutive_alone, passed_at}
+use Rattle.reader.specs.Reading.{flags_at, flags_of, syntax_of, syntax_on, reading_with, has_any_flag, is_consecutive_alone, passed_at}
 use Rattle.reader.specs.State.{count_of, count_sum, moved_to, counted_by}
 use Rattle.reader.specs.Calls.{refusal_with, peeked, peek_of, next_of}
 use Rattle.reader.proofs.passing.Places.{byte_here}

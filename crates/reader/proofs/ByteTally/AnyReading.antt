@@ -1,19 +1,18 @@
 -- Demand 3 over any reading that settles: the byte tally of every list of calls. Assumes nothing.
-use Rattle.std.proofs.Common.{◌≡◌, ℕ, ◌+◌, ◌≤◌, List, [], ◌∷◌, ◌++◌, length, sym, refl, ap, ◌∙◌, subst, add-zero, arith}
+use Rattle.std.proofs.Common.{◌≡◌, ℕ, ◌+◌, List, [], ◌∷◌, ◌++◌, sym, refl, ap, ◌∙◌, subst, add-zero, arith}
 use Rattle.reader.specs.declared.state.Reader.{Reader}
 use Rattle.reader.specs.declared.state.Reader.TheVariants.{Integer, Fraction, Exponent, Special}
 use Rattle.reader.specs.declared.state.State.{State}
 use Rattle.reader.specs.Reading.{Reading}
 use Rattle.reader.specs.State.{Sheet, sheet_of, fresh_on, count_of, moved_to}
-use Rattle.reader.specs.Answer.{Outcome}
 use Rattle.reader.specs.Calls.{peek_of, next_of, read_if_of}
-use Rattle.reader.specs.History.{Call, peek_by, take_by, read_if_by, zero_skip_by, block_by, Answered, take_answered, read_answered, answer_by, answer_to, number_in, taken_in, passed_in, returned, shown_in, seen_in, Trace, trace_from, with_answer, trace_of, total_of, steps_of}
+use Rattle.reader.specs.History.{Call, peek_by, take_by, read_if_by, zero_skip_by, block_by, Answered, take_answered, read_answered, answer_by, answer_to, taken_in, passed_in, returned, shown_in, seen_in, Trace, trace_from, with_answer, trace_of, total_of, steps_of}
 use Rattle.reader.specs.ByteTally.{CountsAgree, SkipsTold, WordKept, reader_of, Preceded, peek_before, PeekChangesNothing, trace_fresh, ByteTally}
 use Rattle.reader.proofs.ByteTally.Settling.{Settles}
 use Rattle.reader.proofs.ByteTally.Peek.{peeks}
 use Rattle.reader.proofs.ByteTally.InsertedPeek.{without_passed, take_after_peek, read_sees_same, take_passes, read_passes, zeros_same, state_same, passed_adds, skip_clear}
 use Rattle.reader.proofs.ByteTally.Invariant.{Tallied}
-use Rattle.reader.proofs.ByteTally.Calls.{Answering, answering}
+use Rattle.reader.proofs.ByteTally.Calls.{answering}
 use Rattle.reader.proofs.ByteTally.ZeroSkips.{count_agrees, answer_told, agreed}
 
 -- LISTS OF CALLS

@@ -1,15 +1,14 @@
 -- A peek put in before a call by the same reader, over any reading that settles: the call answers as without it, only that the peek
 -- has passed what the call would have passed first. Assumes nothing.
-use Rattle.std.proofs.Common.{◌≡◌, ℕ, zero, suc, ◌+◌, ◌≤◌, Bool, true, false, cond, eqb, List, [], ◌∷◌, length, sym, refl, ap, ◌∙◌, add-zero, arith, eqb-true}
+use Rattle.std.proofs.Common.{◌≡◌, ℕ, zero, suc, ◌+◌, ◌≤◌, Bool, true, false, eqb, List, [], ◌∷◌, length, sym, refl, ap, ◌∙◌, add-zero, arith, eqb-true}
 use mathlib.Core.Option.{Option, some, none}
 use Rattle.reader.specs.declared.state.Reader.{Reader}
-use Rattle.reader.specs.declared.state.Reader.TheVariants.{Integer, Fraction, Exponent, Special}
 use Rattle.reader.specs.declared.state.State.{State}
 use Rattle.reader.specs.Reading.{Reading, passed_at}
 use Rattle.reader.specs.State.{count_of, count_sum, moved_to}
-use Rattle.reader.specs.Answer.{Outcome, SkipOutcome}
-use Rattle.reader.specs.Calls.{refusal_of, refusal_with, refused, seen_past, peeked, peek_of, take_byte, next_of, read_byte_if, read_if_of, read_of}
-use Rattle.reader.specs.Repeat.{plus, summed, until_none, repeated}
+use Rattle.reader.specs.Answer.{Outcome}
+use Rattle.reader.specs.Calls.{refusal_of, peeked, peek_of, take_byte, next_of, read_byte_if, read_if_of, read_of}
+use Rattle.reader.specs.Repeat.{summed, until_none, repeated}
 use Rattle.reader.specs.ZeroSkip.{is_zero, raised, zero_read_of, skip_refusal, skipped, skip_zeros_of}
 use Rattle.reader.proofs.state.Refusals.{within, skip_within, still_admitted, still_skipping, peek_admitted, turned_away}
 use Rattle.reader.proofs.passing.Passed.{passed_fits}

@@ -1,6 +1,6 @@
 -- Which refusals a list of calls can meet: from a fresh cursor, by demand 1 and the byte tally, neither 16 nor 17, and so 18 only where
 -- no reader's consecutive flag stands alone. Assumes nothing.
-use Rattle.std.proofs.Common.{◌≡◌, ℕ, ◌≤◌, Bool, true, not, ◌⊎◌, List, [], ◌∷◌, length, sym, refl, ◌∙◌, subst, inl, inr, ⊎_elim, arith}
+use Rattle.std.proofs.Common.{◌≡◌, ℕ, ◌≤◌, Bool, true, not, ◌⊎◌, List, [], ◌∷◌, length, sym, ◌∙◌, subst, inl, inr, ⊎_elim, arith}
 use Rattle.word.specs.Check.{line}
 use Rattle.reader.specs.declared.state.Reader.{Reader}
 use Rattle.reader.specs.declared.state.Reader.TheVariants.{Integer, Fraction, Exponent, Special}
@@ -10,7 +10,7 @@ use Rattle.reader.specs.State.{Sheet, count_sum, fresh_on}
 use Rattle.reader.specs.Calls.{line_consecutive}
 use Rattle.reader.specs.History.{Call, peek_by, take_by, read_if_by, zero_skip_by, block_by, Answered, answer_by, answer_to, number_in, Trace, trace_from, with_answer, trace_of}
 use Rattle.reader.specs.ByteTally.{NeverRefusedBy, trace_fresh}
-use Rattle.reader.specs.RefusalKeeps.{PlaceFault, SpecialFault, OwnFault, Fault, ResultOrRefusal}
+use Rattle.reader.specs.RefusalKeeps.{PlaceFault, OwnFault, Fault}
 use Rattle.reader.proofs.Demand1.{result_or_refusal}
 use Rattle.reader.proofs.ByteTally.AnyReading.{Kept, kept_fresh, kept_on, own_word}
 

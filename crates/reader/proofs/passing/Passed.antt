@@ -1,6 +1,6 @@
 -- What a reader passes at a place, over any reading: separators only, within the buffer, and only where its rule lets it. The calls of
 -- skip and the byte tally stand on it. Assumes nothing.
-use Rattle.std.proofs.Common.{◌≡◌, ℕ, suc, ◌+◌, ◌-◌, ◌<◌, ◌≤◌, Bool, true, false, cond, not, eqb, List, [], ◌∷◌, length, get_or, take, drop, replicate, sym, refl, arith, length-drop, drop-cons, eqb-true}
+use Rattle.std.proofs.Common.{◌≡◌, ℕ, suc, ◌+◌, ◌<◌, ◌≤◌, Bool, true, false, cond, not, eqb, List, [], ◌∷◌, length, get_or, take, drop, replicate, sym, refl, arith, length-drop, drop-cons, eqb-true}
 use mathlib.Core.Option.{Option, some, none}
 use Rattle.reader.specs.Place.{is_separator, byte_at, separator_run, first_other}
 use Rattle.reader.specs.Reading.{Reading, may_pass, passed_at, passes_byte, previous, following}

@@ -1,6 +1,6 @@
 -- The source's tables hold what the definitions say, in every case: tests that antt computes, and the laws that they give: for the
 -- functions of src/rule.rt. Assumes nothing.
-use Rattle.std.proofs.Common.{◌≡◌, ℕ, ◌+◌, ◌*◌, Bool, true, false, cond, not, ◌&&◌, T, eqb, sym, refl, ◌∙◌, eq-eqb}
+use Rattle.std.proofs.Common.{◌≡◌, ℕ, ◌+◌, ◌*◌, Bool, true, false, cond, ◌&&◌, T, eqb, sym, refl, ◌∙◌, eq-eqb}
 use mathlib.Core.Bool.{beq}
 use Rattle.word.specs.Bits.{bit}
 use Rattle.reader.specs.declared.rule.Flags.{Flags}

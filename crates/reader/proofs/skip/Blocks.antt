@@ -11,7 +11,6 @@ use Rattle.reader.specs.declared.skip.BlockAnswer.{BlockAnswer}
 use Rattle.reader.specs.State.{moved_to}
 use Rattle.reader.specs.Reading.{Reading, reading_for, has_any_flag}
 use Rattle.reader.specs.Answer.{number_of, BlockOutcome, block_bytes, block_outcome_of}
-use Rattle.reader.specs.Part.{PartOf}
 use Rattle.reader.specs.Block.{block_refusal, refused_block, block_from, take_n_of, take_n_part, part_start, BlockPart}
 use Rattle.reader.proofs.state.Refusals.{block_within, refusal_tells}
 use Rattle.reader.proofs.passing.Places.{none_there}

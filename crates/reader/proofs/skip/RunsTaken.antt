@@ -1,6 +1,6 @@
 -- Takes come to the end of a run that is refused one by one, so the loop may go there at once. For the proof of `take_run`. Assumes
 -- nothing.
-use Rattle.std.proofs.Common.{◌≡◌, ℕ, zero, suc, ◌+◌, ◌-◌, ◌<◌, Bool, true, false, cond, not, ◌&&◌, ◌||◌, eqb, List, length, get_or, drop, sym, refl, ap, ◌∙◌, ⊎_elim, eq-zero-or-pos, add-one, arith, drop-cons, eq-eqb, ne_eqb, eqb-true}
+use Rattle.std.proofs.Common.{◌≡◌, ℕ, zero, suc, ◌+◌, ◌-◌, ◌<◌, Bool, true, false, cond, not, ◌&&◌, ◌||◌, eqb, List, length, get_or, drop, sym, refl, ◌∙◌, ⊎_elim, eq-zero-or-pos, add-one, arith, drop-cons, eq-eqb, ne_eqb, eqb-true}
 use Rattle.reader.specs.Place.{separator_run}
 use Rattle.reader.specs.Reading.{Reading, may_pass, passed_at}
 use Rattle.reader.specs.Code.TakeSums.{count_behind, lands_at}

@@ -5,7 +5,7 @@ use mathlib.Core.Option.{some, none}
 use Rattle.reader.specs.declared.state.Reader.{Reader}
 use Rattle.reader.specs.declared.state.Reader.TheVariants.{Integer, Fraction, Exponent, Special}
 use Rattle.reader.specs.declared.state.State.{State}
-use Rattle.reader.specs.Reading.{Reading, has_any_flag, may_pass, passed_at}
+use Rattle.reader.specs.Reading.{Reading, has_any_flag, passed_at}
 use Rattle.reader.specs.State.{is_counted, count_of, moved_to, counted_by}
 use Rattle.reader.specs.Code.TakeSums.{with_count, sums_outcome, counts_digits, count_behind, lands_at, sums_from, take_sums_from}
 use Rattle.reader.specs.Answer.{Outcome}

@@ -1,12 +1,11 @@
 -- What a word has that the full check accepts, for demand 3 of the reader: its separator is no digit (line 4), and no reader has the
 -- consecutive flag alone (lines 12 to 14). Assumes nothing.
-use Rattle.std.proofs.Common.{◌≡◌, ℕ, zero, suc, ◌≤◌, max, Bool, true, false, cond, not, ◌&&◌, ◌||◌, eqb, ltb, List, [], ◌∷◌, ◌++◌, refl, arith, ltb-false, le-ltb}
+use Rattle.std.proofs.Common.{◌≡◌, ℕ, zero, suc, ◌≤◌, max, Bool, true, false, not, List, [], ◌∷◌, ◌++◌, refl, arith, ltb-false, le-ltb}
 use mathlib.Core.Option.{Option, some, none}
 use borrow.Author.Tests.{not-true}
 use Rattle.word.specs.declared.format_flags.Format.{Format}
 use Rattle.word.specs.Word.{digit_separator, base_prefix, base_suffix, mantissa_radix, exponent_radix}
 use Rattle.word.specs.Digit.{digit_value, below, is_digit}
-use Rattle.word.specs.Ascii.{valid_ascii}
 use Rattle.word.specs.Check.{line, first_failing, valid_control_in, valid_control, valid_punctuation, consecutive_alone, radix_lines, control_lines, flag_lines, consecutive_lines, full_check}
 
 -- where no line of a list fails, none of its parts fails

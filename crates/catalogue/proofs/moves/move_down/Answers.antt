@@ -1,5 +1,4 @@
 -- `catalogue::moves::move_down` meets its contract: at each turn the words before i stand where they go. Assumes nothing.
-use Prim.Native.Nat.{◌-◌}
 use native.Mathlib.Omega.{arith}
 use Rattle.catalogue.proofs.moves.Steps.{down_starts, down_again, down_ends}
 use Rattle.catalogue.proofs.moves.move_down.Goals as goal

@@ -1,5 +1,4 @@
 -- `catalogue::search::past_eights` meets its contract. Assumes nothing.
-use Prim.Native.Nat.{◌-◌}
 use native.Mathlib.Omega.{arith}
 use Rattle.catalogue.proofs.entries.Place.{passed_none}
 use Rattle.catalogue.proofs.search.Widths.{passed_more}

@@ -1,5 +1,4 @@
 -- `catalogue::search::place_of` meets its contract. Assumes nothing.
-use Prim.Native.Nat.{◌-◌}
 use native.Mathlib.Omega.{arith}
 use Rattle.catalogue.proofs.entries.Words.{word_school}
 use Rattle.catalogue.proofs.entries.Place.{passed_over, stops_here, stops_last}

@@ -1,6 +1,5 @@
 -- `cells::digit_run::take_digits` meets its contract: its numbers stand for the digits taken so far (RunLoop). Assumes nothing.
 use mathlib.Core.Path.{◌∙◌, sym, ap}
-use Prim.Native.Nat.{◌-◌}
 use native.Mathlib.Omega.{arith}
 use borrow.Author.Tests.{not-true, not-false}
 use Rattle.reader.specs.Reading.{reading_with}

@@ -1,7 +1,6 @@
 -- `export::digit_run::grouped_run` meets its contract: at every turn its numbers are those of a digit run (GroupedRuns). Assumes nothing.
 use mathlib.Core.Path.{◌∙◌, sym}
-use mathlib.Core.Bool.{true, false, false≢true}
-use Prim.Native.Nat.{◌-◌}
+use mathlib.Core.Bool.{false≢true}
 use native.Mathlib.Omega.{arith}
 use borrow.Author.Tests.{eqb-false, not-true, not-false}
 use Rattle.export.proofs.digit_run.GroupedRuns.{is_figure, grouped_starts, grouped_digit, grouped_passes, grouped_stops, grouped_out}

@@ -1,7 +1,7 @@
 -- `export::next_all::grouped_cell` meets its contract: at every turn its numbers are those of the takes. Assumes nothing.
 use mathlib.Core.Path.{◌≡◌, sym, ◌∙◌}
 use mathlib.Core.Bool.{Bool, true, false, cond, false≢true}
-use Prim.Native.Nat.{ℕ, ◌+◌, ◌-◌, ◌≤◌}
+use Prim.Native.Nat.{ℕ, ◌+◌, ◌≤◌}
 use native.Mathlib.Omega.{arith}
 use borrow.Author.Tests.{not-false}
 use lib.ListN.{length, get_or}
@@ -43,30 +43,30 @@ overflow_add-n c = omega arith
 
 pub returns-then-s-n : goal.returns-then-s-n
 returns-then-s-n c = rw c.not_grouped.ensures (record {
-      fits = omega arith;
-      cell = λ e. absurd (false≢true e);
-    })
+  fits = omega arith;
+  cell = λ e. absurd (false≢true e);
+})
 
 pub returns-then-count-eq0 : goal.returns-then-count-eq0
 returns-then-count-eq0 c = rw c.not_grouped-then-count-eq0.ensures (record {
-      fits = omega arith;
-      cell = λ e. absurd (false≢true e);
-    })
+  fits = omega arith;
+  cell = λ e. absurd (false≢true e);
+})
 
 pub bounds-s-n : goal.bounds-s-n
 bounds-s-n c = omega arith
 
 pub returns-then-c-separator : goal.returns-then-c-separator
 returns-then-c-separator c = rw c.not_grouped-then-c-separator.ensures (record {
-      fits = omega arith;
-      cell = λ e. absurd (false≢true e);
-    })
+  fits = omega arith;
+  cell = λ e. absurd (false≢true e);
+})
 
 pub returns-then-not-char_is_digit_by_range : goal.returns-then-not-char_is_digit_by_range
 returns-then-not-char_is_digit_by_range c = rw c.not_grouped-then-not-char_is_digit_by_range.ensures (record {
-      fits = omega arith;
-      cell = λ e. absurd (false≢true e);
-    })
+  fits = omega arith;
+  cell = λ e. absurd (false≢true e);
+})
 
 pub overflow_add-count : goal.overflow_add-count
 overflow_add-count c = omega arith

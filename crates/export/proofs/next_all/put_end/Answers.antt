@@ -4,7 +4,7 @@ use Rattle.export.proofs.next_all.put_end.Goals as goal
 
 pub returns : goal.returns
 returns c = rw (c.own-by_integer.ensures, c.own-by_fraction.ensures, c.own-by_exponent.ensures) (record {
-      number = refl;
-      moved = refl;
-      written = refl;
-    })
+  number = refl;
+  moved = refl;
+  written = refl;
+})

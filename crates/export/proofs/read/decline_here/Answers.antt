@@ -4,7 +4,7 @@ use Rattle.export.proofs.read.decline_here.Goals as goal
 
 pub returns : goal.returns
 returns c = rw (c.keep.ensures, c.wide-byte.ensures) (record {
-      number = refl;
-      moved = refl;
-      written = refl;
-    })
+  number = refl;
+  moved = refl;
+  written = refl;
+})

@@ -4,7 +4,7 @@ use Rattle.export.proofs.read.take_here.Goals as goal
 
 pub returns : goal.returns
 returns c = rw (c.put_at.ensures, c.wide-byte.ensures) (record {
-      number = refl;
-      moved = refl;
-      written = refl;
-    })
+  number = refl;
+  moved = refl;
+  written = refl;
+})

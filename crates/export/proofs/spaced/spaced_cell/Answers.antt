@@ -1,7 +1,7 @@
 -- `export::spaced::spaced_cell` meets its contract: at every turn its numbers are those of the takes. Assumes nothing.
 use mathlib.Core.Path.{◌≡◌, sym, ◌∙◌, ap}
 use mathlib.Core.Bool.{Bool, true, false, cond, false≢true}
-use Prim.Native.Nat.{ℕ, ◌+◌, ◌-◌, ◌≤◌}
+use Prim.Native.Nat.{ℕ, ◌+◌, ◌≤◌}
 use native.Mathlib.Omega.{arith}
 use borrow.Author.Tests.{not-false}
 use lib.ListN.{length, get_or}
@@ -42,24 +42,24 @@ loop-at-preserved-then-b-separator c =
 
 pub returns-then-count-eq0 : goal.returns-then-count-eq0
 returns-then-count-eq0 c = rw c.not_grouped.ensures (record {
-      fits = omega arith;
-      cell = λ e. absurd (false≢true e);
-    })
+  fits = omega arith;
+  cell = λ e. absurd (false≢true e);
+})
 
 pub returns-then-s-end : goal.returns-then-s-end
 returns-then-s-end c = rw c.not_grouped-then-s-end.ensures (record {
-      fits = omega arith;
-      cell = λ e. absurd (false≢true e);
-    })
+  fits = omega arith;
+  cell = λ e. absurd (false≢true e);
+})
 
 pub bounds-s-end : goal.bounds-s-end
 bounds-s-end c = omega arith
 
 pub returns-then-not-char_is_digit_by_range : goal.returns-then-not-char_is_digit_by_range
 returns-then-not-char_is_digit_by_range c = rw c.not_grouped-then-not-char_is_digit_by_range.ensures (record {
-      fits = omega arith;
-      cell = λ e. absurd (false≢true e);
-    })
+  fits = omega arith;
+  cell = λ e. absurd (false≢true e);
+})
 
 pub overflow_add-count : goal.overflow_add-count
 overflow_add-count c = omega arith

@@ -8,9 +8,9 @@ use Rattle.export.proofs.state.pawhetino_fresh.Goals as goal
 pub returns-then-edition-ne0 : goal.returns-then-edition-ne0
 unfolding fresh_number fresh_words
 returns-then-edition-ne0 c = rw (ne_eqb _ _ c.if-edition-ne0.true) (record {
-      number = refl;
-      written = refl;
-    })
+  number = refl;
+  written = refl;
+})
 
 pub returns-in-Fresh : goal.returns-in-Fresh
 unfolding fresh_number fresh_words

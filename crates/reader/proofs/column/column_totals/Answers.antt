@@ -1,6 +1,6 @@
 -- `reader::column::column_totals` meets its contract: the sums go on by a stretch of ordinary cells or by one cell (proofs/column/Stretches.antt).
 -- Assumes nothing.
-use Rattle.std.proofs.Common.{◌-◌, sym, ◌∙◌, arith}
+use Rattle.std.proofs.Common.{sym, ◌∙◌, arith}
 use Rattle.reader.proofs.column.Cells.{quick_told}
 use Rattle.reader.proofs.column.Sums.{sums_start, sums_stretch, sums_cell, sums_end}
 use Rattle.reader.proofs.column.Stretches.{refused_alike}

@@ -1,5 +1,5 @@
 -- `reader::column::past_ordinary` meets its contract: a walk over ordinary cells (proofs/column/Stretches.antt). Assumes nothing.
-use Rattle.std.proofs.Common.{◌-◌, true, arith}
+use Rattle.std.proofs.Common.{arith}
 use borrow.Author.Tests.{not-false}
 use Rattle.reader.proofs.column.Stretches.{walk_starts, walk_goes_on, walk_ends}
 use Rattle.reader.proofs.column.past_ordinary.Goals as goal

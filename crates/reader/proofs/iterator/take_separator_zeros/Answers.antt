@@ -1,9 +1,9 @@
 -- `reader::iterator::take_separator_zeros` meets its contract: the loop's numbers are those of a list of reads of `0` (ZeroLoop), also
 -- where it reads a refused run at once (ZeroRuns), and each turn moves the place on. Assumes nothing.
-use Rattle.std.proofs.Common.{◌≡◌, ◌-◌, true, sym, ◌∙◌, arith, eqb-true}
+use Rattle.std.proofs.Common.{sym, ◌∙◌, arith, eqb-true}
 use borrow.Author.Tests.{not-true, not-false}
 use Rattle.reader.specs.Reading.{reading_with}
-use Rattle.reader.proofs.iterator.ZeroLoop.{zero_at, zero_there, skipping_starts, skipping_sums, skipping_over}
+use Rattle.reader.proofs.iterator.ZeroLoop.{zero_there, skipping_starts, skipping_sums, skipping_over}
 use Rattle.reader.proofs.iterator.ZeroRuns.{skipping_taken}
 use Rattle.reader.proofs.skip.LoopState.{standing_counts}
 use Rattle.reader.proofs.iterator.take_separator_zeros.Goals as goal

@@ -1,9 +1,9 @@
 -- `reader::iterator::take_zeros` meets its contract: the loop's numbers are those of a list of reads of `0` (ZeroLoop), and
 -- each turn moves the place on. Assumes nothing.
-use Rattle.std.proofs.Common.{◌≡◌, ℕ, ◌-◌, ◌<◌, true, eqb, length, sym, ◌∙◌, arith}
+use Rattle.std.proofs.Common.{eqb, sym, ◌∙◌, arith}
 use borrow.Author.Tests.{not-true, not-false}
 use Rattle.reader.specs.Reading.{reading_with}
-use Rattle.reader.proofs.iterator.ZeroLoop.{zero_at, PlainZero, plain_zero, skipping_starts, skipping_sums, skipping_room, skipping_on, skipping_by_one, skipping_over}
+use Rattle.reader.proofs.iterator.ZeroLoop.{plain_zero, skipping_starts, skipping_sums, skipping_room, skipping_on, skipping_by_one, skipping_over}
 use Rattle.reader.proofs.iterator.take_zeros.Goals as goal
 
 pub loop-at-init : goal.loop-at-init

@@ -1,6 +1,6 @@
 -- `reader::pairs::count_pairs` meets its contract. The invariant: what is counted and the pairs from here on are those of the slice, and
 -- at most `from` are counted. The measure is what is left of the slice. Assumes nothing.
-use Rattle.std.proofs.Common.{◌-◌, ◌∙◌, arith, length-drop, length-take, rules}
+use Rattle.std.proofs.Common.{◌∙◌, arith, length-drop, length-take, rules}
 use Rattle.reader.proofs.pairs.Counts.{part_most, part_turn, parts_end}
 use Rattle.reader.proofs.pairs.count_pairs.Goals as goal
 

@@ -1,6 +1,6 @@
 -- `reader::pairs::count_short` meets its contract. The invariant: what is counted and the pairs from the byte before this on are those of
 -- the slice, and fewer than i are counted. The measure is what is left of the slice. Assumes nothing.
-use Rattle.std.proofs.Common.{◌-◌, arith, rules}
+use Rattle.std.proofs.Common.{arith, rules}
 use Rattle.reader.proofs.pairs.Counts.{at_most_one, pair_turn, pairs_end}
 use Rattle.reader.proofs.pairs.count_short.Goals as goal
 

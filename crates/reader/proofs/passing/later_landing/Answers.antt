@@ -1,6 +1,6 @@
 -- `reader::passing::later_landing` meets its contract: the rule is asked of the byte behind, where a cursor lands that passes.
 -- Assumes nothing.
-use Rattle.std.proofs.Common.{◌≡◌, true, false, refl, arith, rules}
+use Rattle.std.proofs.Common.{◌≡◌, false, refl, arith, rules}
 use Rattle.reader.specs.Reading.{reading_with, previous, following}
 use Rattle.reader.specs.Rule.{rule_of}
 use Rattle.reader.proofs.passing.Places.{no_separator_at_all}

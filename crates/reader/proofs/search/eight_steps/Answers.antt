@@ -1,5 +1,5 @@
 -- `reader::search::eight_steps` meets its contract: each step is one of width eight (RunSteps). Assumes nothing.
-use Rattle.std.proofs.Common.{◌-◌, arith}
+use Rattle.std.proofs.Common.{arith}
 use Rattle.reader.proofs.search.Numbers.{equal_as_digits}
 use Rattle.reader.proofs.search.RunSteps.{stepping_starts, stepping_on, stops_on_other, stops_near_end}
 use Rattle.reader.proofs.search.eight_steps.Goals as goal
@@ -37,7 +37,7 @@ loop-place-preserved c =
 
 pub returns : goal.returns
 returns c = (
-      stops_near_end _ _ _ _ _ _ c.loop-place.invariant (omega arith) (omega arith),
-      c.loop-place.invariant.stands,
-      c.loop-place.invariant.inside,
-    )
+  stops_near_end _ _ _ _ _ _ c.loop-place.invariant (omega arith) (omega arith),
+  c.loop-place.invariant.stands,
+  c.loop-place.invariant.inside,
+)

@@ -1,5 +1,5 @@
 -- `reader::search::single_steps` meets its contract: each step is one of width one (RunSteps). Assumes nothing.
-use Rattle.std.proofs.Common.{◌-◌, ◌∙◌, div-one, arith}
+use Rattle.std.proofs.Common.{◌∙◌, div-one, arith}
 use Rattle.reader.proofs.search.RunSteps.{stepping_starts, stepping_on, stops_on_other, stops_near_end, one_separator, one_other}
 use Rattle.reader.proofs.search.single_steps.Goals as goal
 

@@ -1,7 +1,7 @@
 -- `reader::skip::current_count` meets its contract. Assumes nothing.
 use Rattle.std.proofs.Common.{◌≡◌, sym, ap, ◌∙◌, arith}
 use Rattle.reader.specs.Answer.{admission_number}
-use Rattle.reader.specs.Calls.{shown_count, current_count_of, place_refusal}
+use Rattle.reader.specs.Calls.{current_count_of, place_refusal}
 use Rattle.reader.proofs.state.Refusals.{place_within, refusal_tells}
 use Rattle.reader.proofs.skip.current_count.Goals as goal
 

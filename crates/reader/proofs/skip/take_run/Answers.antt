@@ -66,12 +66,12 @@ count_past-more-requires c = omega (arith, c.loop-at.invariant.few)
 
 pub past_taken-at-requires : goal.past_taken-at-requires
 past_taken-at-requires c = (
-      c.if-s-place.false,
-      λ e.
-          let none = eqb-true (c.separator_landing-place.result - c.loop-at.at) 0 (and_left (eqb (c.separator_landing-place.result - c.loop-at.at) 0) _ e) in
-          let stays : c.separator_landing-place.result ≡ c.loop-at.at = omega (arith, c.separator_landing-place.ensures.0, none) in
-          rw stays c.if-b-separator.false,
-    )
+  c.if-s-place.false,
+  λ e.
+      let none = eqb-true (c.separator_landing-place.result - c.loop-at.at) 0 (and_left (eqb (c.separator_landing-place.result - c.loop-at.at) 0) _ e) in
+      let stays : c.separator_landing-place.result ≡ c.loop-at.at = omega (arith, c.separator_landing-place.ensures.0, none) in
+      rw stays c.if-b-separator.false,
+)
 
 pub overflow_sub-at : goal.overflow_sub-at
 overflow_sub-at c = omega (arith, c.past_taken-at.ensures.1)
