@@ -23,9 +23,9 @@ without_passed o = record { refusal = o.refusal; byte = o.byte; taken = o.taken;
 
 -- the calls after what was seen look at it alone
 module _ (m : Reading) (r : Reader) (o : Outcome) where
-  take-without : (b : Option ℕ) → take_byte m r (without_passed o) b ≡ without_passed (take_byte m r o b)
-  take-without none = refl
-  take-without (some b) = refl
+  take_without : (b : Option ℕ) → take_byte m r (without_passed o) b ≡ without_passed (take_byte m r o b)
+  take_without none = refl
+  take_without (some b) = refl
 
   pub take_passed : (b : Option ℕ) → (take_byte m r o b).passed ≡ o.passed
   take_passed none = refl
@@ -46,9 +46,9 @@ module _ (wanted : ℕ → Bool) (o : Outcome) where
     go true e = rw e
     go false e = rw e
 
-raised-without : (r : Reader) (o : Outcome) (b : Option ℕ) → raised r (without_passed o) b ≡ without_passed (raised r o b)
-raised-without r o none = refl
-raised-without r o (some b) = refl
+raised_without : (r : Reader) (o : Outcome) (b : Option ℕ) → raised r (without_passed o) b ≡ without_passed (raised r o b)
+raised_without r o none = refl
+raised_without r o (some b) = refl
 
 pub raised_passed : (r : Reader) (o : Outcome) (b : Option ℕ) → (raised r o b).passed ≡ o.passed
 raised_passed r o none = refl
@@ -100,7 +100,7 @@ module _ (m : Reading) (law : Settles m) (s : List ℕ) (st : State) (r : Reader
   pub take_after_peek : next_of m s (peek_of m s st r).state r ≡ without_passed (next_of m s st r)
   unfolding next_of
   take_after_peek =
-      ap (λ (o : Outcome). take_byte m r o o.byte) peek_twice ∙ take-without m r (peek_of m s st r) (peek_of m s st r).byte
+      ap (λ (o : Outcome). take_byte m r o o.byte) peek_twice ∙ take_without m r (peek_of m s st r) (peek_of m s st r).byte
 
   read_after_peek : (wanted : ℕ → Bool) → read_if_of m s (peek_of m s st r).state r wanted ≡ without_passed (read_if_of m s st r wanted)
   unfolding read_if_of
@@ -116,7 +116,7 @@ module _ (m : Reading) (law : Settles m) (s : List ℕ) (st : State) (r : Reader
   unfolding zero_read_of
   zero_after_peek =
       ap (λ (o : Outcome). raised r o o.byte) (read_after_peek is_zero)
-      ∙ raised-without r (read_if_of m s st r is_zero) (read_if_of m s st r is_zero).byte
+      ∙ raised_without r (read_if_of m s st r is_zero) (read_if_of m s st r is_zero).byte
 
   pub take_passes : (next_of m s st r).passed ≡ (peek_of m s st r).passed
   unfolding next_of

@@ -64,7 +64,7 @@ module _
     (at count taken passed place : ℕ)
     (here : Skipping m s r st at count taken passed)
     (lands : place ≡ at + passed_at m s (eqb count 0) at)
-    (zero-read : zero_at s place ≡ true)
+    (zero_read : zero_at s place ≡ true)
   where
     abbrev refused_zero : Bool
     refused_zero = eqb (place - at) 0 && not (eqb count 0)
@@ -77,7 +77,7 @@ module _
         let stays : place ≡ at = omega (arith, none, lands) in
         let refused : passed_at m s (eqb count 0) at ≡ 0 = omega (arith, none, lands) in
         let nothing : passed + (place - at) ≡ passed = omega (arith, none) in
-        let there = zero_there s place zero-read in
+        let there = zero_there s place zero_read in
         let byte : get_or s at 0 ≡ m.separator = rw stays at (eqb-true (get_or s place 0) 48 there.1 ∙ sym is_zero) in
         let e : separator_run m.separator (drop at s) ≡ suc (separator_run m.separator (drop (suc at) s)) = rw (drop-cons s at 0 (omega (arith, stays, there.0)), is_separator_lem m.separator _ (omega (arith, is_zero)) byte) in
         rw (nothing, stays, e) (run_read m s r st clear consecutive is_zero passed at _ count taken e above refused here)
@@ -87,7 +87,7 @@ module _
         → Skipping m s r st to (count + (to - place)) (taken + (to - place)) (passed + (place - at))
     skipping_taken to on = go (refused_zero && not (eqb m.separator 0)) m.flags.consecutive refl refl on where
       one : to ≡ place + 1 → Skipping m s r st to (count + (to - place)) (taken + (to - place)) (passed + (place - at))
-      one l = let step : to - place ≡ 1 = omega arith in rw (step, l) (skipping_on m s r st clear at count taken passed here place lands zero-read)
+      one l = let step : to - place ≡ 1 = omega arith in rw (step, l) (skipping_on m s r st clear at count taken passed here place lands zero_read)
 
       go : (t c : Bool) → (refused_zero && not (eqb m.separator 0)) ≡ t → m.flags.consecutive ≡ c
           → to ≡ place + cond t (cond c (separator_run m.separator (drop place s)) 1) 1
