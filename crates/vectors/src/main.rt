@@ -1,6 +1,6 @@
-// Replays answers of the Rust crate that were recorded as lines of text, and of a plain count or a map where the crate has
-// none: reads them from standard input, asks our library the same, and says on standard output what differs and how much
-// was compared.
+// Replays answers of the Rust crate that were recorded as lines of text, and of a plain count where the crate has none:
+// reads them from standard input, asks our library the same, and says on standard output what differs and how much was
+// compared.
 #![tactic(auto)]
 
 mod call;
@@ -10,7 +10,6 @@ mod record;
 mod replay;
 mod report;
 mod run_end;
-mod sheets;
 mod tally;
 
 use crate::lines::Progress;

@@ -67,7 +67,6 @@ impl Text {
             Answer::Digit => self.then(b"digit"),
             Answer::Call => self.then(b"call"),
             Answer::RunEnd => self.then(b"run end"),
-            Answer::Act => self.then(b"catalogue act"),
         }
     }
 
@@ -119,7 +118,6 @@ pub fn sum_up(tally: Tally) {
         .count(tally.digits, b" digits, ")
         .count(tally.calls, b" reader calls, ")
         .count(tally.run_ends, b" run ends, ")
-        .count(tally.acts, b" catalogue acts, ")
         .number(tally.others)
         .then(b" lines that are no record\n")
         .write();

@@ -1,6 +1,6 @@
 -- `vectors::replay::compare` meets its contract. Assumes nothing.
 use borrow.Author.Tests.{eq-eqb, ne_eqb}
-use Rattle.vectors.specs.Replay.{verdict_of, digit_verdict, call_verdict, run_end_verdict, act_verdict}
+use Rattle.vectors.specs.Replay.{verdict_of, digit_verdict, call_verdict, run_end_verdict}
 use borrow.Author.Rules.{rules}
 use Rattle.vectors.proofs.replay.compare.Statement.{statement}
 use Rattle.vectors.proofs.replay.compare.Tie as tie
@@ -16,9 +16,6 @@ compare-call-requires c κs = search rules
 
 compare-run-end-requires : tie.Need-compare-run-end-requires
 compare-run-end-requires c κs = search rules
-
-compare-act-requires : tie.Need-compare-act-requires
-compare-act-requires c κs = search rules
 
 returns : tie.Need-returns
 unfolding verdict_of
@@ -37,14 +34,10 @@ unfolding verdict_of run_end_verdict
 returns-4 c = rw c.before.match.keys4 c.compare-run-end.ensures
 
 returns-5 : tie.Need-returns-5
-unfolding verdict_of act_verdict
-returns-5 c = rw c.before.match.keys5 c.compare-act.ensures
-
-returns-6 : tie.Need-returns-6
 unfolding verdict_of
-returns-6 c =
+returns-5 c =
     let rest = c.match.rest in
-    rw (ne_eqb _ _ rest.0.0.0.0.1, ne_eqb _ _ rest.0.0.0.1, ne_eqb _ _ rest.0.0.1, ne_eqb _ _ rest.0.1, ne_eqb _ _ rest.1)
+    rw (ne_eqb _ _ rest.0.0.0.1, ne_eqb _ _ rest.0.0.1, ne_eqb _ _ rest.0.1, ne_eqb _ _ rest.1)
 
 pub compare-spec : {M : Type 1} → statement M
 compare-spec =
@@ -54,10 +47,8 @@ compare-spec =
     compare-digit-requires
     compare-call-requires
     compare-run-end-requires
-    compare-act-requires
     returns
     returns-2
     returns-3
     returns-4
-    returns-5
-    returns-6)
+    returns-5)

@@ -17,9 +17,6 @@ with-requires-3 c κs = search rules
 with-requires-4 : tie.Need-with-requires-4
 with-requires-4 c κs = search rules
 
-with-requires-5 : tie.Need-with-requires-5
-with-requires-5 c κs = search rules
-
 one-more-requires : tie.Need-one-more-requires
 one-more-requires c κs = search rules
 
@@ -41,13 +38,9 @@ returns-4 c = rw (c.before.match.keys4, c.with4.ensures)
 
 returns-5 : tie.Need-returns-5
 unfolding of_its_kind
-returns-5 c = rw (c.before.match.keys5, c.with5.ensures)
-
-returns-6 : tie.Need-returns-6
-unfolding of_its_kind
-returns-6 c =
+returns-5 c =
     let rest = c.before.match.rest in
-    rw (ne_eqb _ _ rest.0.0.0.0.1, ne_eqb _ _ rest.0.0.0.1, ne_eqb _ _ rest.0.0.1, ne_eqb _ _ rest.0.1, ne_eqb _ _ rest.1, c.one_more.ensures)
+    rw (ne_eqb _ _ rest.0.0.0.1, ne_eqb _ _ rest.0.0.1, ne_eqb _ _ rest.0.1, ne_eqb _ _ rest.1, c.one_more.ensures)
 
 pub with-kind-spec : {M : Type 1} → statement M
 with-kind-spec =
@@ -57,11 +50,9 @@ with-kind-spec =
     with-requires-2
     with-requires-3
     with-requires-4
-    with-requires-5
     one-more-requires
     returns
     returns-2
     returns-3
     returns-4
-    returns-5
-    returns-6)
+    returns-5)
