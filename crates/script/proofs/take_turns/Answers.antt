@@ -1,7 +1,6 @@
 -- `script::take_turns` meets its contract: proofs/History.antt has the loop's laws, and the measure is the number of turns that are
 -- left. Assumes nothing.
 use mathlib.Core.Path.{◌≡◌, refl}
-use Prim.Native.Nat.{◌-◌}
 use native.Mathlib.Omega.{arith}
 use borrow.Author.Rules.{rules}
 use lib.ListN.{length}

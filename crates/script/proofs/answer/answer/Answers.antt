@@ -1,6 +1,6 @@
 -- `script::answer::answer` meets its contract: Records.antt has the loop's laws. Assumes nothing.
 use mathlib.Core.Path.{refl, ◌∙◌, ap, sym}
-use Prim.Native.Nat.{◌+◌, ◌-◌}
+use Prim.Native.Nat.{◌+◌}
 use native.Mathlib.Omega.{arith}
 use borrow.Author.Tests.{not-true, not-false}
 use lib.ListN.{get_or, length-drop}

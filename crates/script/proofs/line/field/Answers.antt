@@ -5,6 +5,6 @@ use Rattle.script.proofs.line.field.Goals as goal
 
 pub returns : goal.returns
 returns c = record {
-      wrote = wrote_then c.put-begun.ensures c.number.ensures.wrote;
-      short = omega (arith, c.put-begun.ensures.place, c.number.ensures.short);
-    }
+  wrote = wrote_then c.put-begun.ensures c.number.ensures.wrote;
+  short = omega (arith, c.put-begun.ensures.place, c.number.ensures.short);
+}

@@ -1,5 +1,4 @@
 -- `script::line::put_all` meets its contract: Writes.antt has the loop's laws. Assumes nothing.
-use Prim.Native.Nat.{◌-◌}
 use native.Mathlib.Omega.{arith}
 use Rattle.script.proofs.line.Writes.{copy_starts, copy_goes_on, copy_ends}
 use Rattle.script.proofs.line.put_all.Goals as goal

@@ -1,4 +1,3 @@
-use Prim.Native.Nat.{◌-◌}
 use Rattle.script.proofs.record.Numbers.{Reading}
 use Rattle.script.proofs.record.number_at.Given as goal
 

@@ -1,5 +1,4 @@
 -- `script::stream::keep_tail` meets its contract: Pieces.antt has the loop's laws. Assumes nothing.
-use Prim.Native.Nat.{◌-◌}
 use native.Mathlib.Omega.{arith}
 use Rattle.script.proofs.stream.Pieces.{keeping_starts, keeping_goes_on, keeping_ends}
 use Rattle.script.proofs.stream.keep_tail.Goals as goal
