@@ -1,5 +1,4 @@
 -- `vectors::call::pack_part` meets its contract: each turn moves a byte from the list into the number. Assumes nothing.
-use Prim.Native.Nat.{◌-◌}
 use mathlib.Core.Path.{◌∙◌, refl, sym}
 use native.Mathlib.Omega.{arith}
 use Rattle.vectors.proofs.call.PackedAnswers.{one_behind, all_behind_lem}

@@ -1,5 +1,4 @@
 -- `vectors::record::field_end` meets its contract. Assumes nothing.
-use Prim.Native.Nat.{◌-◌}
 use mathlib.Core.Path.{refl}
 use native.Mathlib.Omega.{arith}
 use Rattle.vectors.proofs.record.Fields.{at_space, before_space, at_end}

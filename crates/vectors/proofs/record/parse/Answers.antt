@@ -1,5 +1,4 @@
 -- `vectors::record::parse` meets its contract: each turn passes a field, the space before it at least. Assumes nothing.
-use Prim.Native.Nat.{◌-◌}
 use mathlib.Core.Path.{◌∙◌, sym}
 use native.Mathlib.Omega.{arith}
 use Rattle.vectors.proofs.record.Fields.{first_fields, no_line, next_field, fields_end}

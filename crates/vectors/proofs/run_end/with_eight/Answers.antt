@@ -1,5 +1,4 @@
 -- `vectors::run_end::with_eight` meets its contract: each turn stores one byte of the list. Assumes nothing.
-use Prim.Native.Nat.{◌-◌}
 use mathlib.Core.Path.{◌∙◌, sym, ap}
 use native.Mathlib.Nat.{add-zero}
 use native.Mathlib.Omega.{arith}

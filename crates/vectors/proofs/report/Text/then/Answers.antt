@@ -1,5 +1,4 @@
 -- `vectors::report::Text::then` is safe and ends. Assumes nothing.
-use Prim.Native.Nat.{◌-◌}
 use native.Mathlib.Omega.{arith}
 use Rattle.vectors.proofs.report.Text.then.Goals as goal
 
