@@ -36,7 +36,9 @@ module _ (n : ℕ) (w s : List ℕ) (low : n ≤ 2) (edition : get_or w 7 0 ≡ 
         (sym (run (syntax_of f r) f r (between_in n w low 10 decimal positive internal)))
 
     pub run_written : (old : List ℕ)
-        → (0 ≡ (digit_run_by n w s).refusal)
-        × (((get_or w 0 0 ∷ get_or w 1 0 ∷ at ∷ cond (eqb n 0) count 0 ∷ cond (eqb n 1) count 0 ∷ cond (eqb n 2) count 0 ∷ get_or w 6 0 ∷ get_or w 7 0 ∷ []) ≡ state_words w (digit_run_by n w s).state)
-        × ((1 ∷ value ∷ count ∷ passed ∷ []) ≡ value_words old (digit_run_by n w s)))
-    run_written old = rw read (refl, (end_words_lem n low w (fresh_of f) at count refl refl refl, refl))
+        → record {
+            number : 0 ≡ (digit_run_by n w s).refusal;
+            moved : (get_or w 0 0 ∷ get_or w 1 0 ∷ at ∷ cond (eqb n 0) count 0 ∷ cond (eqb n 1) count 0 ∷ cond (eqb n 2) count 0 ∷ get_or w 6 0 ∷ get_or w 7 0 ∷ []) ≡ state_words w (digit_run_by n w s).state;
+            written : (1 ∷ value ∷ count ∷ passed ∷ []) ≡ value_words old (digit_run_by n w s);
+          }
+    run_written old = rw read (record { number = refl; moved = end_words_lem n low w (fresh_of f) at count refl refl refl; written = refl })

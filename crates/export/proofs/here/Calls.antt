@@ -86,12 +86,12 @@ module _ (n : ℕ) (w s : List ℕ) (b : ℕ) (here : Sight n w s (some b)) wher
 
   -- the words that a take writes
   pub next_words : (old : List ℕ) (up : Bool) → up ≡ (has_any_flag (own_flags (get_or w 0 0 / 2 ^ n)) && is_digit b (mantissa_radix (state_in w).format)) → get_or w 0 0 < 2 ^ 64
-      → (0 ≡ (taken_by n w s).refusal) × ((words_at w n up (get_or w 2 0 + 1) ≡ state_words w (taken_by n w s).state) × ((1 ∷ b ∷ 1 ∷ 0 ∷ []) ≡ byte_words old (taken_by n w s)))
+      → record { number : 0 ≡ (taken_by n w s).refusal; moved : words_at w n up (get_or w 2 0 + 1) ≡ state_words w (taken_by n w s).state; written : (1 ∷ b ∷ 1 ∷ 0 ∷ []) ≡ byte_words old (taken_by n w s) }
   next_words old up known small =
       let flagged : has_any_flag (own_flags (get_or w 0 0 / 2 ^ n)) ≡ has_any_flag (flags_of (state_in w).format own) =
       ap has_any_flag (own_flags_lem (state_in w).format n here.low small ∙ sym ((counted_reader n here.low).flags (state_in w).format)) in
       let same : up ≡ counted = known ∙ rw flagged in
-      rw (taken_byte, same) (refl, (at_words n here.low w counted (get_or w 2 0 + 1), refl))
+      rw (taken_byte, same) (record { number = refl; moved = at_words n here.low w counted (get_or w 2 0 + 1); written = refl })
 
   -- a read of a byte that is wanted, and of one that is not
   pub read_taken : (wanted : ℕ → Bool) → wanted b ≡ true

@@ -105,9 +105,9 @@ module _ (n : ℕ) (w s : List ℕ) (over : is_over n w s ≡ true) where
     taken_over = rw (by, sees, counts)
 
     pub peek_over_words : (old : List ℕ)
-        → (0 ≡ (peeked_by n w s).refusal) × ((over_state n w false ≡ state_words w (peeked_by n w s).state) × (over_answer w s false ≡ byte_words old (peeked_by n w s)))
-    peek_over_words old = rw peeked_over (refl, (at_words n here.low w false (get_or w 2 0 + 1), refl))
+        → record { number : 0 ≡ (peeked_by n w s).refusal; moved : over_state n w false ≡ state_words w (peeked_by n w s).state; written : over_answer w s false ≡ byte_words old (peeked_by n w s) }
+    peek_over_words old = rw peeked_over (record { number = refl; moved = at_words n here.low w false (get_or w 2 0 + 1); written = refl })
 
     pub next_over_words : (old : List ℕ)
-        → (0 ≡ (taken_by n w s).refusal) × ((over_state n w true ≡ state_words w (taken_by n w s).state) × (over_answer w s true ≡ byte_words old (taken_by n w s)))
-    next_over_words old = rw taken_over (refl, (at_words n here.low w true (get_or w 2 0 + 1 + 1), refl))
+        → record { number : 0 ≡ (taken_by n w s).refusal; moved : over_state n w true ≡ state_words w (taken_by n w s).state; written : over_answer w s true ≡ byte_words old (taken_by n w s) }
+    next_over_words old = rw taken_over (record { number = refl; moved = at_words n here.low w true (get_or w 2 0 + 1 + 1); written = refl })

@@ -14,11 +14,15 @@ use Rattle.export.specs.Code.Reply.{byte_reply, read_reply, zeros_reply, block_r
 
 pub written_as :
     (w : List ℕ) (reply due : Reply) → reply ≡ due
-    → {number : ℕ} {state answer : List ℕ}
-    → (number ≡ reply.number) × ((state ≡ state_words w reply.state) × (answer ≡ reply_words reply))
-    → (number ≡ due.number) × ((state ≡ state_words w due.state) × (answer ≡ reply_words due))
+    → {told : ℕ} {state answer : List ℕ}
+    → record { number : told ≡ reply.number; moved : state ≡ state_words w reply.state; written : answer ≡ reply_words reply }
+    → record { number : told ≡ due.number; moved : state ≡ state_words w due.state; written : answer ≡ reply_words due }
 written_as w reply due same put =
-    (put.0 ∙ ap (λ (r : Reply). r.number) same, (put.1.0 ∙ ap (λ (r : Reply). state_words w r.state) same, put.1.1 ∙ ap reply_words same))
+    record {
+      number = put.number ∙ ap (λ (r : Reply). r.number) same;
+      moved = put.moved ∙ ap (λ (r : Reply). state_words w r.state) same;
+      written = put.written ∙ ap reply_words same;
+    }
 
 -- a refused call's reply is the same whatever the call answers
 module _ (number : ℕ) (st : State) (old : ℕ) where

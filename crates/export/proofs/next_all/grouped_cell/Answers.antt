@@ -42,19 +42,31 @@ pub overflow_add-n : goal.overflow_add-n
 overflow_add-n c = omega arith
 
 pub returns-then-s-n : goal.returns-then-s-n
-returns-then-s-n c = rw c.not_grouped.ensures (omega arith, λ e. absurd (false≢true e))
+returns-then-s-n c = rw c.not_grouped.ensures (record {
+      fits = omega arith;
+      cell = λ e. absurd (false≢true e);
+    })
 
 pub returns-then-count-eq0 : goal.returns-then-count-eq0
-returns-then-count-eq0 c = rw c.not_grouped-then-count-eq0.ensures (omega arith, λ e. absurd (false≢true e))
+returns-then-count-eq0 c = rw c.not_grouped-then-count-eq0.ensures (record {
+      fits = omega arith;
+      cell = λ e. absurd (false≢true e);
+    })
 
 pub bounds-s-n : goal.bounds-s-n
 bounds-s-n c = omega arith
 
 pub returns-then-c-separator : goal.returns-then-c-separator
-returns-then-c-separator c = rw c.not_grouped-then-c-separator.ensures (omega arith, λ e. absurd (false≢true e))
+returns-then-c-separator c = rw c.not_grouped-then-c-separator.ensures (record {
+      fits = omega arith;
+      cell = λ e. absurd (false≢true e);
+    })
 
 pub returns-then-not-char_is_digit_by_range : goal.returns-then-not-char_is_digit_by_range
-returns-then-not-char_is_digit_by_range c = rw c.not_grouped-then-not-char_is_digit_by_range.ensures (omega arith, λ e. absurd (false≢true e))
+returns-then-not-char_is_digit_by_range c = rw c.not_grouped-then-not-char_is_digit_by_range.ensures (record {
+      fits = omega arith;
+      cell = λ e. absurd (false≢true e);
+    })
 
 pub overflow_add-count : goal.overflow_add-count
 overflow_add-count c = omega arith

@@ -38,7 +38,7 @@ returns c =
     let law = grouped_written a.reader a.state.now a.s.now fresh g.result.count g.result.passed
     (rw (c.digit_separator-separator.ensures, c.radix_of.ensures) at cell) a.answer.now in
     let e = c.put_end.ensures in record {
-      number = e.0 ∙ law.0;
-      moved = e.1.0 ∙ law.1.0;
-      written = e.1.1 ∙ law.1.1;
+      number = e.number ∙ law.0;
+      moved = e.moved ∙ law.1.0;
+      written = e.written ∙ law.1.1;
     }

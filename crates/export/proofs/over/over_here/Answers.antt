@@ -15,7 +15,15 @@ pub bounds-s-next : goal.bounds-s-next
 bounds-s-next c = let a = c.args in more a.reader a.state.now a.s.now (sym c.is_over.ensures ∙ not-false _ c.if-not-is_over.false-raw)
 
 pub returns-then-takes : goal.returns-then-takes
-returns-then-takes c = rw (c.put_at.ensures, c.wide-byte.ensures, c.if-takes.true) (sym (not-false _ c.if-not-is_over.false-raw) ∙ c.is_over.ensures, (refl, refl))
+returns-then-takes c = rw (c.put_at.ensures, c.wide-byte.ensures, c.if-takes.true) (record {
+      over = sym (not-false _ c.if-not-is_over.false-raw) ∙ c.is_over.ensures;
+      moved = refl;
+      written = refl;
+    })
 
 pub returns : goal.returns
-returns c = rw (c.put_at-2.ensures, c.wide-byte.ensures, c.if-takes.false) (sym (not-false _ c.if-not-is_over.false-raw) ∙ c.is_over.ensures, (refl, refl))
+returns c = rw (c.put_at-2.ensures, c.wide-byte.ensures, c.if-takes.false) (record {
+      over = sym (not-false _ c.if-not-is_over.false-raw) ∙ c.is_over.ensures;
+      moved = refl;
+      written = refl;
+    })

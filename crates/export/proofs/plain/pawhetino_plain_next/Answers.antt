@@ -14,4 +14,8 @@ pub returns-in-Unknown : goal.returns-in-Unknown
 unfolding plain_taken_by
 returns-in-Unknown c =
     let e = unnamed _ _ c.reader_named-by.ensures c.in-Unknown.is in
-    rw e (c.unknown.ensures.number, (refl, c.unknown.ensures.written))
+    rw e (record {
+      number = c.unknown.ensures.number;
+      moved = refl;
+      written = c.unknown.ensures.written;
+    })

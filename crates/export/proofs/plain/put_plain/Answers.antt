@@ -3,10 +3,22 @@ use mathlib.Core.Path.{refl}
 use Rattle.export.proofs.plain.put_plain.Goals as goal
 
 pub returns-in-Byte : goal.returns-in-Byte
-returns-in-Byte c = rw (c.in-Byte.is, c.wide-byte.ensures) (refl, (refl, refl))
+returns-in-Byte c = rw (c.in-Byte.is, c.wide-byte.ensures) (record {
+      number = refl;
+      moved = refl;
+      written = refl;
+    })
 
 pub returns-in-End : goal.returns-in-End
-returns-in-End c = rw c.in-End.is (refl, (refl, refl))
+returns-in-End c = rw c.in-End.is (record {
+      number = refl;
+      moved = refl;
+      written = refl;
+    })
 
 pub returns-in-CursorPastEnd : goal.returns-in-CursorPastEnd
-returns-in-CursorPastEnd c = rw c.in-CursorPastEnd.is (refl, (refl, refl))
+returns-in-CursorPastEnd c = rw c.in-CursorPastEnd.is (record {
+      number = refl;
+      moved = refl;
+      written = refl;
+    })

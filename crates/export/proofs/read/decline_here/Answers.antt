@@ -3,4 +3,8 @@ use mathlib.Core.Path.{refl}
 use Rattle.export.proofs.read.decline_here.Goals as goal
 
 pub returns : goal.returns
-returns c = rw (c.keep.ensures, c.wide-byte.ensures) (refl, (refl, refl))
+returns c = rw (c.keep.ensures, c.wide-byte.ensures) (record {
+      number = refl;
+      moved = refl;
+      written = refl;
+    })

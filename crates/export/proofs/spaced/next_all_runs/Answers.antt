@@ -25,7 +25,7 @@ returns c =
     (rw (c.digit_separator.ensures, c.radix_of.ensures) at cell)
     (sym runs.ensures ∙ not-false _ c.if-not-has_consecutive.false-raw) a.answer.now in
     let e = c.put_end.ensures in record {
-      number = e.0 ∙ law.0;
-      moved = e.1.0 ∙ law.1.0;
-      written = e.1.1 ∙ law.1.1;
+      number = e.number ∙ law.0;
+      moved = e.moved ∙ law.1.0;
+      written = e.written ∙ law.1.1;
     }

@@ -41,16 +41,25 @@ loop-at-preserved-then-b-separator c =
     (omega (arith, inside), omega (arith, counted, i.1), omega (arith, i.2), λ x f r b together. rw c.count_past-count.ensures (grouped_on a.separator a.radix a.s.now x f r b c.loop-at.at c.loop-at.count c.loop-at.passed (i.3 x f r b together) inside c.if-b-separator.true))
 
 pub returns-then-count-eq0 : goal.returns-then-count-eq0
-returns-then-count-eq0 c = rw c.not_grouped.ensures (omega arith, λ e. absurd (false≢true e))
+returns-then-count-eq0 c = rw c.not_grouped.ensures (record {
+      fits = omega arith;
+      cell = λ e. absurd (false≢true e);
+    })
 
 pub returns-then-s-end : goal.returns-then-s-end
-returns-then-s-end c = rw c.not_grouped-then-s-end.ensures (omega arith, λ e. absurd (false≢true e))
+returns-then-s-end c = rw c.not_grouped-then-s-end.ensures (record {
+      fits = omega arith;
+      cell = λ e. absurd (false≢true e);
+    })
 
 pub bounds-s-end : goal.bounds-s-end
 bounds-s-end c = omega arith
 
 pub returns-then-not-char_is_digit_by_range : goal.returns-then-not-char_is_digit_by_range
-returns-then-not-char_is_digit_by_range c = rw c.not_grouped-then-not-char_is_digit_by_range.ensures (omega arith, λ e. absurd (false≢true e))
+returns-then-not-char_is_digit_by_range c = rw c.not_grouped-then-not-char_is_digit_by_range.ensures (record {
+      fits = omega arith;
+      cell = λ e. absurd (false≢true e);
+    })
 
 pub overflow_add-count : goal.overflow_add-count
 overflow_add-count c = omega arith
