@@ -1,14 +1,11 @@
 //! Writes the Rust's answers as text, for a program that has no Rust at hand. The
-//! crate has no answer for the end of a run, where it is a plain count's, and knows no
-//! catalogue, where it is a map's.
+//! crate has no answer for the end of a run; there it is a plain count's.
 //!
 //! `W lo hi full plain`: a word and the answers of both checks.
 //! `D byte radix digit`: whether the byte is a digit.
 //! `R ..`: a reader call, see `record/readers.rs`.
 //! `E ..`: the end of a run of separators, see `record/run_ends.rs`.
-//! `K ..`: an act on a catalogue, see `record/catalogue.rs`.
 
-mod catalogue;
 mod packed;
 mod readers;
 mod run_ends;
@@ -60,7 +57,6 @@ fn write_record(seed: u64) -> io::Result<()> {
     write_digits(&mut out, &mut Rng::new(seed, "record digits"))?;
     readers::write(&mut out, seed)?;
     run_ends::write(&mut out, seed)?;
-    catalogue::write(&mut out, seed)?;
     out.flush()
 }
 

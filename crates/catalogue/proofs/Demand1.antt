@@ -14,7 +14,7 @@ use Rattle.catalogue.specs.Entries.{is_listed}
 use Rattle.catalogue.specs.Catalogue.{Catalogue, size, word_in, add_number, remove_number, removed, without_listed}
 use Rattle.catalogue.specs.Acts.{Act, add, remove, number_for}
 use Rattle.catalogue.specs.RefusalKeeps.{AddFault, ActRefusalKeeps}
-use Rattle.catalogue.proofs.acts.Answers.{refused-word, refused-zero, refused-listed, refused_full, accepted, refused_adds, removes}
+use Rattle.catalogue.proofs.acts.Answers.{refused-word, refused_zero, refused_listed, refused_full, accepted, refused_adds, removes}
 
 -- THE NUMBER OF AN ADDITION, and where it is 0 all that it tested
 
@@ -34,10 +34,10 @@ judged c n f = go (eqb (full_check f) 0) (eqb n 0) (is_listed (word_in c n)) (lt
       let number = refused-word c n f bad in
       inr (λ k. bad (sym number ∙ k), inl (number, λ k. bad (sym number ∙ k)))
   go true true l r v e is room =
-      let number = refused-zero c n f (eqb-true (full_check f) 0 v) (eqb-true n 0 e) in
+      let number = refused_zero c n f (eqb-true (full_check f) 0 v) (eqb-true n 0 e) in
       inr (λ k. omega (arith, number, k), inr (inl (number, inl (eqb-true n 0 e))))
   go true false true r v e is room =
-      let number = refused-listed c n f (eqb-true (full_check f) 0 v) (eqb-false n 0 e) is in
+      let number = refused_listed c n f (eqb-true (full_check f) 0 v) (eqb-false n 0 e) is in
       inr (λ k. omega (arith, number, k), inr (inl (number, inr is)))
   go true false false false v e is room =
       let full = ltb-false (size c) 64 room in

@@ -15,7 +15,7 @@ use Rattle.catalogue.specs.declared.entries.Entry.{Entry}
 use Rattle.catalogue.specs.Entries.{entry_of, look_up, is_listed, inserted, without, sum_of, uses, count_over}
 use Rattle.catalogue.specs.Catalogue.{Catalogue, no_entry, empty_catalogue, listing, size, word_in, raised, with_entry, without_entry, add_number, added, remove_number, removed}
 use Rattle.catalogue.specs.Acts.{Act, add, remove, number_for, after, catalogue_after}
-use Rattle.catalogue.proofs.Sums.{sum-inserted, sum-without, sum-few}
+use Rattle.catalogue.proofs.Sums.{sum_inserted, sum_without, sum_few}
 use Rattle.catalogue.proofs.Ascending.{Ascending, ascends_inserted, ascends_without}
 use Rattle.catalogue.proofs.Demand1.{Addable, addable, unlisted}
 use Rattle.catalogue.proofs.acts.Answers.{adds, refused_adds, removes}
@@ -26,10 +26,10 @@ one_each [] = refl
 one_each (e ∷ l) = omega (arith, one_each l)
 
 pub length_inserted : (e : Entry) (l : List Entry) → length (inserted e l) ≡ suc (length l)
-length_inserted e l = omega (arith, one_each (inserted e l), one_each l, sum-inserted (λ x. 1) e l)
+length_inserted e l = omega (arith, one_each (inserted e l), one_each l, sum_inserted (λ x. 1) e l)
 
 pub length_without : (n : ℕ) (f : Format) (l : List Entry) → look_up n l ≡ some f → length l ≡ suc (length (without n l))
-length_without n f l found = omega (arith, one_each l, one_each (without n l), sum-without (λ x. 1) n f l found)
+length_without n f l found = omega (arith, one_each l, one_each (without n l), sum_without (λ x. 1) n f l found)
 
 -- THE LISTING BEHIND AN ACT
 
@@ -66,7 +66,7 @@ size_is c sound = length-take-le c.used c.places (omega (arith, sound.places, so
 sound_with : (c : Catalogue) (e : Entry) → Sound c → word_in c e.school ≡ none → size c < 64 → Sound (with_entry c e)
 sound_with c e sound new room =
     let many = length_inserted e (listing c) in
-    let few : c.tally < 64 = omega (arith, sound.tally, sum-few (λ x. uses x.format) uses-one (listing c)) in
+    let few : c.tally < 64 = omega (arith, sound.tally, sum_few (λ x. uses x.format) uses-one (listing c)) in
     let more : raised c.tally (uses e.format) ≡ c.tally + uses e.format = rw (lt-ltb c.tally 64 few) in
     record {
       places =
@@ -74,7 +74,7 @@ sound_with c e sound new room =
           ∙ omega (arith, many, length-drop (suc (size c)) c.places, sound.places);
       fits = omega arith;
       tally =
-          more ∙ omega (arith, sound.tally, ap count_over (listing_with c e), sum-inserted (λ x. uses x.format) e (listing c));
+          more ∙ omega (arith, sound.tally, ap count_over (listing_with c e), sum_inserted (λ x. uses x.format) e (listing c));
       ascends = rw (listing_with c e) (ascends_inserted e (listing c) new sound.ascends);
     }
 
@@ -87,7 +87,7 @@ sound_without c n f sound found =
           ∙ omega (arith, many, length-drop (size c) c.places, sound.places, size_is c sound, sound.fits);
       fits = omega (arith, size_is c sound, sound.fits);
       tally =
-          omega (arith, sound.tally, ap count_over (listing-without c n f found), sum-without (λ x. uses x.format) n f (listing c) found);
+          omega (arith, sound.tally, ap count_over (listing-without c n f found), sum_without (λ x. uses x.format) n f (listing c) found);
       ascends = rw (listing-without c n f found) (ascends_without n (listing c) sound.ascends);
     }
 

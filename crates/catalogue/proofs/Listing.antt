@@ -13,7 +13,7 @@ use Rattle.catalogue.specs.declared.entries.Entry.{Entry}
 use Rattle.catalogue.specs.Entries.{entry_of, look_up, is_listed, inserted, without, sum_of, count_over}
 use Rattle.catalogue.specs.Catalogue.{Catalogue, listing, size, word_in, entry_in, add_number, remove_number, removed}
 use Rattle.catalogue.specs.Acts.{Act, remove, number_for, after, catalogue_after, word_left, word_since, of_school, weight_of, ListedOnce}
-use Rattle.catalogue.proofs.Sums.{sum-inserted, sum-without}
+use Rattle.catalogue.proofs.Sums.{sum_inserted, sum_without}
 use Rattle.catalogue.proofs.Ascending.{looks_inserted_same, looks_inserted_other, looks_without_same, looks_without_other, row_looks, rows_ascend, looks_row}
 use Rattle.catalogue.proofs.Histories.{Sound, sound, Effect, refused, put_in, taken_out, effect, listing_with, listing-without, fewer}
 use Rattle.catalogue.proofs.Demand1.{unlisted}
@@ -47,14 +47,14 @@ found_since (act ∷ earlier) n =
     look_after (catalogue_after earlier) act n (sound earlier) ∙ ap (word_behind n (catalogue_after earlier) act) (found_since earlier n)
 
 -- THE LISTING: exactly the schools added and not removed since, each once with its word
-listed-after :
+listed_after :
     (c : Catalogue) (act : Act) (n : ℕ) (weight : Format → ℕ) → sum_of (of_school n weight) (listing c) ≡ weight_of weight (word_in c n)
     → sum_of (of_school n weight) (listing (after c act)) ≡ weight_of weight (word_behind n c act (word_in c n))
-listed-after c act n weight before = go (effect c act) where
+listed_after c act n weight before = go (effect c act) where
   go : {a : Act} → Effect c a → sum_of (of_school n weight) (listing (after c a)) ≡ weight_of weight (word_behind n c a (word_in c n))
   go (refused {act = a} bad same) = rw (same, ne_eqb (number_for c a) 0 bad) before
   go (put_in {n = m} {f} e fine is) =
-      rw (is, eq-eqb (add_number c m f) 0 e, listing_with c (entry_of m f), sum-inserted (of_school n weight) (entry_of m f) (listing c)) (by_school (eqb m n) refl) where
+      rw (is, eq-eqb (add_number c m f) 0 e, listing_with c (entry_of m f), sum_inserted (of_school n weight) (entry_of m f) (listing c)) (by_school (eqb m n) refl) where
         unlisted : (o : Option Format) → is_listed o ≡ false → weight_of weight o ≡ 0
         unlisted none is = refl
         unlisted (some g) is = absurd (let z : ◌≡◌ {A = ℕ} 0 1 = cc in omega (arith, z))
@@ -64,7 +64,7 @@ listed-after c act n weight before = go (effect c act) where
         by_school false t = omega (arith, before)
   go (taken_out {n = m} {f} e found is) = rw (is, eq-eqb (remove_number c m) 0 e, listing-without c m f found) (by_school (eqb m n) refl) where
     taken : sum_of (of_school n weight) (listing c) ≡ of_school n weight (entry_of m f) + sum_of (of_school n weight) (without m (listing c))
-    taken = sum-without (of_school n weight) m f (listing c) found
+    taken = sum_without (of_school n weight) m f (listing c) found
 
     by_school : (t : Bool) → eqb m n ≡ t → sum_of (of_school n weight) (without m (listing c)) ≡ weight_of weight (cond t none (word_in c n))
     by_school true t =
@@ -80,7 +80,7 @@ pub listed_once : (acts : List Act) → ListedOnce acts
 listed_once [] n weight = refl
 listed_once (act ∷ earlier) n weight =
     let so_far = listed_once earlier n weight ∙ ap (weight_of weight) (sym (found_since earlier n)) in
-    listed-after (catalogue_after earlier) act n weight so_far
+    listed_after (catalogue_after earlier) act n weight so_far
     ∙ ap (λ (o : Option Format). weight_of weight (word_behind n (catalogue_after earlier) act o)) (found_since earlier n)
 
 -- The same a row at a time, as `entry` gives them: each row's school was added with its word and not removed since, each school that was has a
@@ -120,10 +120,10 @@ zero_not_listed acts = go (word_in (catalogue_after acts) 0) refl where
   go (some f) e = absurd ((since_valid acts 0 f (sym (found_since acts 0) ∙ e)).1 refl)
 
 -- "Removal frees the place for any later school": behind an accepted one there is room for any school that is not listed
-pub place-freed :
+pub place_freed :
     (acts : List Act) (gone n : ℕ) (f : Format) → remove_number (catalogue_after acts) gone ≡ 0
     → full_check f ≡ 0 → (n ≡ 0 → ⊥) → is_listed (word_in (catalogue_after (remove gone ∷ acts)) n) ≡ false → add_number (catalogue_after (remove gone ∷ acts)) n f ≡ 0
-place-freed acts gone n f done valid school new =
+place_freed acts gone n f done valid school new =
     accepted (catalogue_after (remove gone ∷ acts)) n f valid school new (room (effect (catalogue_after acts) (remove gone))) where
       room : Effect (catalogue_after acts) (remove gone) → size (removed (catalogue_after acts) gone) < 64
       room (refused bad same) = absurd (bad done)

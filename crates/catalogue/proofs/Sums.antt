@@ -14,17 +14,17 @@ use Rattle.catalogue.specs.declared.entries.Entry.{Entry}
 use Rattle.catalogue.specs.Entries.{entry_of, look_up, inserted, without, sum_of}
 
 module _ (weight : Entry → ℕ) where
-  pub sum-inserted : (e : Entry) (l : List Entry) → sum_of weight (inserted e l) ≡ weight e + sum_of weight l
-  sum-inserted e [] = refl
-  sum-inserted e (x ∷ l) = go (ltb x.school e.school) (sum-inserted e l) where
+  pub sum_inserted : (e : Entry) (l : List Entry) → sum_of weight (inserted e l) ≡ weight e + sum_of weight l
+  sum_inserted e [] = refl
+  sum_inserted e (x ∷ l) = go (ltb x.school e.school) (sum_inserted e l) where
     go : (t : Bool) → sum_of weight (inserted e l) ≡ weight e + sum_of weight l
         → sum_of weight (cond t (x ∷ inserted e l) (e ∷ x ∷ l)) ≡ weight e + (weight x + sum_of weight l)
     go true h = omega (arith, h)
     go false h = refl
 
-  pub sum-without : (n : ℕ) (f : Format) (l : List Entry) → look_up n l ≡ some f → sum_of weight l ≡ weight (entry_of n f) + sum_of weight (without n l)
-  sum-without n f [] e = absurd (let z : ◌≡◌ {A = ℕ} 0 1 = cc in omega (arith, z))
-  sum-without n f (x ∷ l) e = go (ltb x.school n) (eqb x.school n) refl (sum-without n f l) e where
+  pub sum_without : (n : ℕ) (f : Format) (l : List Entry) → look_up n l ≡ some f → sum_of weight l ≡ weight (entry_of n f) + sum_of weight (without n l)
+  sum_without n f [] e = absurd (let z : ◌≡◌ {A = ℕ} 0 1 = cc in omega (arith, z))
+  sum_without n f (x ∷ l) e = go (ltb x.school n) (eqb x.school n) refl (sum_without n f l) e where
     go :
         (t u : Bool) → eqb x.school n ≡ u → (look_up n l ≡ some f → sum_of weight l ≡ weight (entry_of n f) + sum_of weight (without n l))
         → cond t (look_up n l) (cond u (some x.format) none) ≡ some f
@@ -38,6 +38,6 @@ module _ (weight : Entry → ℕ) where
     go false false same rest found = absurd (let z : ◌≡◌ {A = ℕ} 0 1 = cc in omega (arith, z))
 
   -- weights of at most 1 come to at most the number of entries
-  pub sum-few : ((e : Entry) → weight e ≤ 1) → (l : List Entry) → sum_of weight l ≤ length l
-  sum-few small [] = omega arith
-  sum-few small (e ∷ l) = omega (arith, small e, sum-few small l)
+  pub sum_few : ((e : Entry) → weight e ≤ 1) → (l : List Entry) → sum_of weight l ≤ length l
+  sum_few small [] = omega arith
+  sum_few small (e ∷ l) = omega (arith, small e, sum_few small l)

@@ -1,10 +1,10 @@
 -- DEMAND 1 of a digit run: a value, or one of its numbers, told of its own fault, with nothing taken, nothing passed and the state that it
 -- was given. For every word, buffer, state and reader; nothing is assumed. 01's numbers are those of a zero skip, of which demand-1 speaks.
-use mathlib.Core.Path.{◌≡◌, ◌∙◌, refl, sym, ap}
+use mathlib.Core.Path.{◌≡◌, refl}
 use mathlib.Core.Logic.{◌⊎◌, inl, inr}
-use mathlib.Core.Bool.{Bool, true, false, cond, not}
+use mathlib.Core.Bool.{Bool, true, false, not}
 use mathlib.Core.List.{List, [], ◌∷◌}
-use Prim.Native.Nat.{ℕ, zero, suc, ◌≤◌, ◌<◌, ◌^◌}
+use Prim.Native.Nat.{ℕ, zero, suc, ◌^◌}
 use native.Mathlib.Omega.{arith}
 use borrow.Author.Tests.{eqb-true, eqb-false, ltb-false}
 use lib.Dec.{eqb, ltb}
@@ -15,11 +15,11 @@ use Rattle.reader.specs.declared.state.State.{State}
 use Rattle.reader.specs.declared.passing.Syntax.{Syntax}
 use Rattle.reader.specs.Reading.{Reading, reading_with}
 use Rattle.reader.specs.ZeroSkip.{skip_refusal, skip_zeros_of}
-use Rattle.reader.specs.History.{zero_skip_by, number_in, answer_to}
-use Rattle.reader.specs.RefusalKeeps.{ResultOrRefusal, RefusalKeeps}
+use Rattle.reader.specs.History.{zero_skip_by, answer_to}
+use Rattle.reader.specs.RefusalKeeps.{ResultOrRefusal}
 use Rattle.reader.proofs.Demand1.{demand_1}
 use Rattle.cells.specs.Value.{value_of}
-use Rattle.cells.specs.DigitRun.{line23, line24, taken_run, run_refusal, refused_run, digit_run_of}
+use Rattle.cells.specs.DigitRun.{line23, line24, taken_run, run_refusal, digit_run_of}
 use Rattle.cells.specs.RefusalKeeps.{ReaderFault, DigitFault, RunRefusalKeeps}
 
 -- a list without members
@@ -75,9 +75,9 @@ module _ (x : Syntax) (s : List ℕ) (st : State) (r : Reader) where
     go (suc n) (inl e) then = absurd (omega (arith, e))
     go (suc n) (inr fault) then = inr (inl fault)
 
-  pub digit-run-refusal : ((digit_run_of x s st r).refusal ≡ 0) ⊎ RunRefusalKeeps x s st r (digit_run_of x s st r)
+  pub digit_run_refusal : ((digit_run_of x s st r).refusal ≡ 0) ⊎ RunRefusalKeeps x s st r (digit_run_of x s st r)
   unfolding digit_run_of
-  digit-run-refusal = go (eqb (run_refusal x s st r) 0) refl number_of where
+  digit_run_refusal = go (eqb (run_refusal x s st r) 0) refl number_of where
     go :
         (t : Bool) → eqb (run_refusal x s st r) 0 ≡ t → Judged (run_refusal x s st r)
         → ((digit_run_of x s st r).refusal ≡ 0) ⊎ RunRefusalKeeps x s st r (digit_run_of x s st r)

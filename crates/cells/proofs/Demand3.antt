@@ -1,11 +1,10 @@
 -- DEMAND 3 with digit runs: a list of the five calls and of digit runs, in any order, from a fresh cursor on a sheet whose word the full
 -- check accepts, stands for its calls, and demand-3 speaks of those. That the calls come to the state and the sums that the list returns
 -- holds from every state, for every word. Assumes nothing else.
-use mathlib.Core.Path.{◌≡◌, ◌∙◌, refl, sym, ap, subst}
+use mathlib.Core.Path.{◌≡◌, ◌∙◌, refl, ap, subst}
 use mathlib.Core.Bool.{Bool, true, false, cond}
 use mathlib.Core.List.{List, [], ◌∷◌, ◌++◌}
 use Prim.Native.Nat.{ℕ, zero, suc, ◌+◌}
-use native.Mathlib.Nat.{add-zero}
 use native.Mathlib.Omega.{arith}
 use lib.Dec.{eqb}
 use lib.ListN.{length, length-append}
@@ -18,8 +17,8 @@ use Rattle.reader.specs.State.{Sheet, sheet_of, fresh_on}
 use Rattle.reader.specs.Answer.{Outcome}
 use Rattle.reader.specs.Calls.{refusal_of, refused, peeked, peek_of, next_of}
 use Rattle.reader.specs.History.{Call, peek_by, take_by, peek_answered, take_answered, byte_taken, answer_to, taken_in, passed_in, returned, Trace, trace_from, with_answer, trace_of, total_of}
-use Rattle.reader.proofs.ByteTally.Steps.{peek-step, take_step, take-counts}
-use Rattle.reader.proofs.Demand3.{demand-3}
+use Rattle.reader.proofs.ByteTally.Steps.{peek_step, take_step, take_counts}
+use Rattle.reader.proofs.Demand3.{demand_3}
 use Rattle.cells.specs.DigitRun.{Digits, sees_digit, digits_from, run_refusal, digit_run_of}
 use Rattle.cells.specs.ByteTally.{Item, a_call, a_run, calls_from, calls_of_run, run_from, readings, Sums, sums_after, stands_for, calls_of, RunTally}
 
@@ -47,7 +46,7 @@ module _ (x : Sheet → Reader → Syntax) (s : List ℕ) (r : Reader) (sheet : 
     go false = refl
 
   peek_sheet : (st : State) → sheet_of (peek_of m s st r).state ≡ sheet_of st
-  peek_sheet st = (peek-step (λ q. m) s st r).word
+  peek_sheet st = (peek_step (λ q. m) s st r).word
 
   take_sheet : (st : State) → sheet_of (next_of m s st r).state ≡ sheet_of st
   take_sheet st = (take_step (λ q. m) s st r).word
@@ -82,7 +81,7 @@ module _ (x : Sheet → Reader → Syntax) (s : List ℕ) (r : Reader) (sheet : 
     step_then v run rest =
         record {
           here = rest.here;
-          took = omega (arith, rest.took, peek_none w.state, take-counts (λ q. m) s seen.state r, length-append (byte_taken took.byte) run.digits);
+          took = omega (arith, rest.took, peek_none w.state, take_counts (λ q. m) s seen.state r, length-append (byte_taken took.byte) run.digits);
           over = omega (arith, rest.over);
         }
 
@@ -166,4 +165,4 @@ module _ (x : Sheet → Reader → Syntax) (s : List ℕ) where
 pub demand_3_runs : (sheet : Sheet) → full_check sheet.format ≡ 0 → (s : List ℕ) (items : List Item) → RunTally syntax_on s sheet items
 demand_3_runs sheet accepted s items =
     let all = list_at syntax_on s items (trace_from (fresh_on sheet)) _ (record { here = refl; took = refl; over = refl }) in
-    record { state = all.here; taken = all.took; passed = all.over; tally = demand-3 sheet accepted s (calls_of syntax_on s sheet items) }
+    record { state = all.here; taken = all.took; passed = all.over; tally = demand_3 sheet accepted s (calls_of syntax_on s sheet items) }

@@ -1,13 +1,12 @@
 -- What a digit run takes: digits only, by every word. Assumes nothing.
-use mathlib.Core.Path.{◌≡◌, ◌∙◌, refl, sym, ap}
-use mathlib.Core.Bool.{Bool, true, false, cond, false≢true}
+use mathlib.Core.Path.{◌≡◌, ◌∙◌, refl, sym}
+use mathlib.Core.Bool.{Bool, true, false, false≢true}
 use mathlib.Core.List.{List, [], ◌∷◌, ◌++◌}
 use mathlib.Core.Option.{Option, some, none}
 use Prim.Native.Nat.{ℕ, zero, suc, ◌+◌, ◌<◌}
 use native.Mathlib.Omega.{arith}
 use borrow.Author.Tests.{eqb-true, ltb-true}
 use lib.Dec.{eqb}
-use lib.ListN.{length}
 use Rattle.word.specs.Digit.{below, digit_value, is_digit}
 use Rattle.reader.specs.declared.state.Reader.{Reader}
 use Rattle.reader.specs.declared.state.State.{State}
@@ -17,11 +16,11 @@ use Rattle.reader.specs.Reading.{Reading, reading_with, passed_at}
 use Rattle.reader.specs.State.{count_of, moved_to}
 use Rattle.reader.specs.Calls.{refusal_of, peeked, peek_of, take_byte, next_of}
 use Rattle.reader.specs.History.{byte_taken}
-use Rattle.reader.proofs.passing.Passed.{passed-fits}
-use Rattle.reader.proofs.state.Refusals.{within, still-admitted, peek-admitted, turned-away}
+use Rattle.reader.proofs.passing.Passed.{passed_fits}
+use Rattle.reader.proofs.state.Refusals.{within, still_admitted, peek_admitted, turned_away}
 use Rattle.reader.proofs.state.Updates.{count_moved}
 use Rattle.cells.specs.DigitRun.{sees_digit, digits_from}
-use Rattle.cells.proofs.TwicePassed.{digit-behind}
+use Rattle.cells.proofs.TwicePassed.{digit_behind}
 
 abbrev pub is_some : Option ℕ → Bool
 is_some none = false
@@ -53,11 +52,11 @@ module _ (x : Syntax) (s : List ℕ) (r : Reader) where
 
     peek_shows : refusal_of m s st r ≡ 0 → (peek_of m s st r).byte ≡ byte_at s place
     unfolding peeked
-    peek_shows clear = rw (peek-admitted m s st r clear)
+    peek_shows clear = rw (peek_admitted m s st r clear)
 
     peek_leaves : refusal_of m s st r ≡ 0 → (peek_of m s st r).state ≡ moved_to st place
     unfolding peeked
-    peek_leaves clear = rw (peek-admitted m s st r clear)
+    peek_leaves clear = rw (peek_admitted m s st r clear)
 
   -- the take from the state that a peek left
   next_shows : (st : State) → refusal_of m s st r ≡ 0
@@ -65,8 +64,8 @@ module _ (x : Syntax) (s : List ℕ) (r : Reader) where
   unfolding moved_to
   next_shows st clear =
       let w = within m.flags s st r clear in
-      let fits = passed-fits m s (is_first st) st.cursor w.0 in
-      let still = still-admitted m.flags s st (moved_to st (place st)) r fits (omega (arith, w.1)) clear in
+      let fits = passed_fits m s (is_first st) st.cursor w.0 in
+      let still = still_admitted m.flags s st (moved_to st (place st)) r fits (omega (arith, w.1)) clear in
       take_shows (moved_to st (place st)) ∙ peek_shows (moved_to st (place st)) still ∙ rw (count_moved st (place st) r)
 
   -- behind a peek that saw a digit a digit is taken
@@ -79,19 +78,19 @@ module _ (x : Syntax) (s : List ℕ) (r : Reader) where
 
         go : (o : Option ℕ) → byte_at s (place st) ≡ o → sees_digit m o ≡ true → m.digit c ≡ true
         go none e h = absurd (false≢true h)
-        go (some b) e h = digit-behind x s (is_first st) st.cursor b e h c took_there
+        go (some b) e h = digit_behind x s (is_first st) st.cursor b e h c took_there
 
-  pub digit-taken : (st : State) → sees_digit m (peek_of m s st r).byte ≡ true
+  pub digit_taken : (st : State) → sees_digit m (peek_of m s st r).byte ≡ true
       → (c : ℕ) → (next_of m s (peek_of m s st r).state r).byte ≡ some c → m.digit c ≡ true
-  digit-taken st sees c took = go (eqb (refusal_of m s st r) 0) refl where
+  digit_taken st sees c took = go (eqb (refusal_of m s st r) 0) refl where
     go : (t : Bool) → eqb (refusal_of m s st r) 0 ≡ t → m.digit c ≡ true
     go true t = taken_here st (eqb-true (refusal_of m s st r) 0 t) sees c took
-    go false t = absurd (false≢true (rw (turned-away m s st r t) at sees))
+    go false t = absurd (false≢true (rw (turned_away m s st r t) at sees))
 
-  pub digits-are-digits : (n : ℕ) (st : State) → Every (λ b. is_digit b x.radix) (digits_from n m s r st).digits
+  pub digits_are_digits : (n : ℕ) (st : State) → Every (λ b. is_digit b x.radix) (digits_from n m s r st).digits
   unfolding digits_from reading_with
-  digits-are-digits zero st = tt
-  digits-are-digits (suc n) st = go (sees_digit m (peek_of m s st r).byte) refl (digits-are-digits n (next_of m s (peek_of m s st r).state r).state) where
+  digits_are_digits zero st = tt
+  digits_are_digits (suc n) st = go (sees_digit m (peek_of m s st r).byte) refl (digits_are_digits n (next_of m s (peek_of m s st r).state r).state) where
     joined : (rest : List ℕ) (o : Option ℕ) → ((c : ℕ) → o ≡ some c → is_digit c x.radix ≡ true) → Every (λ b. is_digit b x.radix) rest
         → Every (λ b. is_digit b x.radix) (byte_taken o ++ rest)
     joined rest none one all = all
@@ -102,7 +101,7 @@ module _ (x : Syntax) (s : List ℕ) (r : Reader) where
         → Every (λ b. is_digit b x.radix) (digits_from n m s r (next_of m s (peek_of m s st r).state r).state).digits
         → Every (λ b. is_digit b x.radix) (digits_from (suc n) m s r st).digits
     go false e rest = rw e tt
-    go true e rest = rw e (joined _ (next_of m s (peek_of m s st r).state r).byte (digit-taken st e) rest)
+    go true e rest = rw e (joined _ (next_of m s (peek_of m s st r).state r).byte (digit_taken st e) rest)
 
 -- so each has a value, in a radix of eight bits: above that every byte is a digit
 has_value : (b radix : ℕ) → radix < 256 → is_digit b radix ≡ true → is_some (digit_value b) ≡ true
@@ -118,4 +117,4 @@ each_has_value radix small (b ∷ rest) all = (has_value b radix small all.0, ea
 
 pub digits_have_values : (x : Syntax) (s : List ℕ) (r : Reader) (n : ℕ) (st : State) → x.radix < 256
     → Every (λ b. is_some (digit_value b)) (digits_from n (reading_with x) s r st).digits
-digits_have_values x s r n st small = each_has_value x.radix small (digits_from n (reading_with x) s r st).digits (digits-are-digits x s r n st)
+digits_have_values x s r n st small = each_has_value x.radix small (digits_from n (reading_with x) s r st).digits (digits_are_digits x s r n st)

@@ -16,10 +16,10 @@ use Rattle.reader.specs.Place.{byte_at}
 use Rattle.reader.specs.Reading.{Reading, passed_at}
 use Rattle.reader.specs.State.{count_of, moved_to}
 use Rattle.reader.specs.Calls.{refusal_of, peeked, peek_of, take_byte, next_of}
-use Rattle.reader.proofs.passing.Places.{byte-here, none_there}
-use Rattle.reader.proofs.state.Refusals.{peek-admitted, turned-away}
-use Rattle.reader.proofs.skip.Takes.{peek-byte, next-takes-one}
-use Rattle.reader.proofs.ByteTally.Steps.{moves_clear, peek-step}
+use Rattle.reader.proofs.passing.Places.{byte_here, none_there}
+use Rattle.reader.proofs.state.Refusals.{peek_admitted, turned_away}
+use Rattle.reader.proofs.skip.Takes.{peek_byte, next_takes_one}
+use Rattle.reader.proofs.ByteTally.Steps.{moves_clear, peek_step}
 use Rattle.cells.specs.DigitRun.{stopped, step_then, sees_digit, digits_from, taken_run}
 
 module _ (m : Reading) (s : List ℕ) (r : Reader) where
@@ -28,20 +28,20 @@ module _ (m : Reading) (s : List ℕ) (r : Reader) where
   seen_clear st b e = go (eqb (refusal_of m s st r) 0) refl where
     go : (t : Bool) → eqb (refusal_of m s st r) 0 ≡ t → refusal_of m s st r ≡ 0
     go true t = eqb-true (refusal_of m s st r) 0 t
-    go false t = absurd (none_there b (rw (turned-away m s st r t) at e))
+    go false t = absurd (none_there b (rw (turned_away m s st r t) at e))
 
   -- a peek that is not refused and sees no byte has come to the end
   peeks_end : (st : State) → refusal_of m s st r ≡ 0 → (peek_of m s st r).byte ≡ none → length s ≤ (peek_of m s st r).state.cursor
   unfolding peeked moved_to
-  peeks_end st clear e = rw (peek-admitted m s st r clear) (go (ltb place (length s)) refl) where
+  peeks_end st clear e = rw (peek_admitted m s st r clear) (go (ltb place (length s)) refl) where
     place : ℕ
     place = st.cursor + passed_at m s (eqb (count_of st r) 0) st.cursor
 
     there : byte_at s place ≡ none
-    there = rw (peek-admitted m s st r clear) at e
+    there = rw (peek_admitted m s st r clear) at e
 
     go : (t : Bool) → ltb place (length s) ≡ t → length s ≤ place
-    go true t = absurd (none_there _ (sym there ∙ byte-here s place (ltb-true place (length s) t)))
+    go true t = absurd (none_there _ (sym there ∙ byte_here s place (ltb-true place (length s) t)))
     go false t = ltb-false place (length s) t
 
   -- a take that takes nothing is its peek
@@ -61,13 +61,13 @@ module _ (m : Reading) (s : List ℕ) (r : Reader) where
     seen = (peek_of m s st r).state
 
     on : st.cursor ≤ seen.cursor
-    on = omega (arith, (peek-step (λ q. m) s st r).cursor)
+    on = omega (arith, (peek_step (λ q. m) s st r).cursor)
 
     clear : refusal_of m s seen r ≡ 0
-    clear = moves_clear (λ q. m) s st _ seen (peek-step (λ q. m) s st r) m.flags r (seen_clear st b e)
+    clear = moves_clear (λ q. m) s st _ seen (peek_step (λ q. m) s st r) m.flags r (seen_clear st b e)
 
     go : (o : Option ℕ) → (next_of m s seen r).byte ≡ o → length s ≤ (next_of m s seen r).state.cursor + n
-    go (some c) q = omega (arith, on, enough, (next-takes-one m s seen r c q).moves)
+    go (some c) q = omega (arith, on, enough, (next_takes_one m s seen r c q).moves)
     go none q =
         let nothing = takes_nothing seen q in
         let end = peeks_end seen clear nothing.0 in
@@ -78,7 +78,7 @@ module _ (m : Reading) (s : List ℕ) (r : Reader) where
   sees_none st out = go (peek_of m s st r).byte refl where
     go : (o : Option ℕ) → (peek_of m s st r).byte ≡ o → sees_digit m o ≡ false
     go none e = refl
-    go (some b) e = absurd (omega (arith, out, (peek-byte m s st r b e).inside))
+    go (some b) e = absurd (omega (arith, out, (peek_byte m s st r b e).inside))
 
   enough_from : (n k : ℕ) (st : State) → length s ≤ st.cursor + n → digits_from (n + k) m s r st ≡ digits_from n m s r st
   unfolding digits_from
@@ -103,5 +103,5 @@ module _ (m : Reading) (s : List ℕ) (r : Reader) where
       judge false = refl
       judge true = ap (step_then (peek_of m s st r) (next_of m s seen r)) (rest (moves_on st b e n enough))
 
-  pub enough-steps : (st : State) (k : ℕ) → digits_from (length s + k) m s r st ≡ taken_run m s st r
-  enough-steps st k = enough_from (length s) k st (omega arith)
+  pub enough_steps : (st : State) (k : ℕ) → digits_from (length s + k) m s r st ≡ taken_run m s st r
+  enough_steps st k = enough_from (length s) k st (omega arith)

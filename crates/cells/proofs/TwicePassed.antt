@@ -2,32 +2,21 @@
 -- that one too. By 01's rules it does so only without the consecutive flag, and only in front of a digit: so behind a peek that saw a digit
 -- a digit is taken, by every word. Assumes nothing.
 use mathlib.Core.Path.{◌≡◌, ◌∙◌, refl, sym, ap}
-use mathlib.Core.Bool.{Bool, true, false, cond, false≢true}
+use mathlib.Core.Bool.{Bool, true, false, false≢true}
 use mathlib.Core.List.{List, head?}
-use mathlib.Core.Option.{Option, some, none}
-use Prim.Native.Nat.{ℕ, suc, ◌+◌, ◌≤◌, ◌<◌}
+use mathlib.Core.Option.{Option, some}
+use Prim.Native.Nat.{ℕ, ◌+◌}
 use native.Mathlib.Nat.{add-zero}
 use native.Mathlib.Numerals.{add-one}
-use native.Mathlib.Omega.{arith}
-use borrow.Author.Tests.{eqb-true}
-use lib.Dec.{eqb}
-use lib.ListN.{length, drop, get_or}
+use lib.ListN.{drop, get_or}
 use Rattle.reader.specs.declared.rule.Flags.{Flags}
 use Rattle.reader.specs.declared.rule.Neighbour.{Neighbour}
-use Rattle.reader.specs.declared.state.Reader.{Reader}
-use Rattle.reader.specs.declared.state.State.{State}
 use Rattle.reader.specs.declared.passing.Syntax.{Syntax}
 use Rattle.reader.specs.Rule.{rule_of, first, later}
 use Rattle.reader.specs.Place.{is_separator, byte_at, before, after, nearest}
 use Rattle.reader.specs.Reading.{Reading, reading_with, neighbour_of, previous, following, may_pass, passed_at}
-use Rattle.reader.specs.State.{count_of, moved_to}
-use Rattle.reader.specs.Answer.{Outcome}
-use Rattle.reader.specs.Calls.{refusal_of, peeked, peek_of, take_byte, next_of}
-use Rattle.reader.proofs.passing.Places.{byte-here, byte_inside, none_there, before_next, run-byte}
-use Rattle.reader.proofs.passing.Passed.{PassesHere, passes-here, passes_none, passes-one, passes-run, separator_is, other_differs}
-use Rattle.reader.proofs.state.Refusals.{within, still-admitted, peek-admitted, turned-away}
-use Rattle.reader.proofs.state.Updates.{count_moved}
-use Rattle.reader.proofs.skip.Takes.{peek-byte}
+use Rattle.reader.proofs.passing.Places.{byte_here, byte_inside, before_next, run_byte}
+use Rattle.reader.proofs.passing.Passed.{passes_here, passes_none, passes_one, passes_run, separator_is, other_differs}
 
 -- a neighbour that is a separator and a digit
 abbrev both : Neighbour
@@ -84,8 +73,8 @@ module _ (x : Syntax) (s : List ℕ) (is_first : Bool) (at : ℕ) where
     -- what was passed with the consecutive flag is followed by another byte
     no_run : may_pass m s is_first at ≡ true → m.flags.consecutive ≡ true → may_pass m s is_first place ≡ true → ⊥
     no_run e k again =
-        let p = passes-here m s is_first place again in
-        let other = other_differs m.separator (drop at s) b (sym (run-byte m.separator s at) ∙ (rw (passes-run m s is_first at e k) at here)) in
+        let p = passes_here m s is_first place again in
+        let other = other_differs m.separator (drop at s) b (sym (run_byte m.separator s at) ∙ (rw (passes_run m s is_first at e k) at here)) in
         let same = same_byte (byte_at s place) p.byte b p.here here in
         false≢true (sym other ∙ rw (sym same) p.separator)
 
@@ -94,15 +83,15 @@ module _ (x : Syntax) (s : List ℕ) (is_first : Bool) (at : ℕ) where
         → (c : ℕ) → byte_at s (place + 1) ≡ some c → m.digit c ≡ true
     unfolding reading_with
     single e k again c behind =
-        let p = passes-here m s is_first at e in
-        let q = passes-here m s is_first place again in
-        let one : place ≡ at + 1 = rw (passes-one m s is_first at e k) in
+        let p = passes_here m s is_first at e in
+        let q = passes_here m s is_first place again in
+        let one : place ≡ at + 1 = rw (passes_one m s is_first at e k) in
         let h = byte_inside s at p.byte p.here in
         let same : q.byte ≡ b = same_byte (byte_at s place) q.byte b q.here here in
         let separator : is_separator m.separator b ≡ true = rw same at q.separator in
         let equal : p.byte ≡ b = separator_is m.separator p.byte p.separator ∙ sym (separator_is m.separator b separator) in
         let is-both = as_both b digit separator in
-        let byte : get_or s at 0 ≡ b = same_byte (byte_at s at) (get_or s at 0) b (byte-here s at h) (p.here ∙ ap some equal) in
+        let byte : get_or s at 0 ≡ b = same_byte (byte_at s at) (get_or s at 0) b (byte_here s at h) (p.here ∙ ap some equal) in
         let back : previous m s place ≡ neighbour_of m (some b) =
         ap (neighbour_of m) (plain_nearest m.separator m.flags.consecutive (before s place) k ∙ rw (one, before_next s at h, byte)) in
         let front : following m s at ≡ neighbour_of m (some b) =
@@ -113,8 +102,8 @@ module _ (x : Syntax) (s : List ℕ) (is_first : Bool) (at : ℕ) where
         ∙ ap (λ (n : Neighbour). n.digit) (sym next)
         ∙ twice x.flags is_first (previous m s at) (following m s place) k (rw (front, is-both) at p.rule) (rw (back, is-both) at q.rule)
 
-    pub digit-behind : (c : ℕ) → byte_at s (place + passed_at m s is_first place) ≡ some c → m.digit c ≡ true
-    digit-behind c behind = go (may_pass m s is_first place) (may_pass m s is_first at) m.flags.consecutive refl refl refl where
+    pub digit_behind : (c : ℕ) → byte_at s (place + passed_at m s is_first place) ≡ some c → m.digit c ≡ true
+    digit_behind c behind = go (may_pass m s is_first place) (may_pass m s is_first at) m.flags.consecutive refl refl refl where
       go : (t u v : Bool) → may_pass m s is_first place ≡ t → may_pass m s is_first at ≡ u → m.flags.consecutive ≡ v → m.digit c ≡ true
       go false u v e f k =
           let stays : place + passed_at m s is_first place ≡ place = rw (passes_none m s is_first place e) (add-zero place) in
@@ -124,4 +113,4 @@ module _ (x : Syntax) (s : List ℕ) (is_first : Bool) (at : ℕ) where
           let stays : place ≡ at = rw (passes_none m s is_first at f) (add-zero at) in
           absurd (false≢true (sym f ∙ rw stays at e))
       go true true true e f k = absurd (no_run f k e)
-      go true true false e f k = single f k e c (rw (passes-one m s is_first place e k) at behind)
+      go true true false e f k = single f k e c (rw (passes_one m s is_first place e k) at behind)

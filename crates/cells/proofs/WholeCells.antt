@@ -1,7 +1,7 @@
 -- Of a run that reaches the end of a cell, the digits are the cell's bytes that are no separators: for numbers from cells that are longer
 -- than 64 bits hold. Assumes nothing.
 use mathlib.Core.Path.{◌≡◌, ◌∙◌, refl, sym, ap}
-use mathlib.Core.Bool.{Bool, true, false, cond, false≢true}
+use mathlib.Core.Bool.{Bool, true, false, false≢true}
 use mathlib.Core.List.{List, [], ◌∷◌, ◌++◌, append-nil, append_assoc}
 use mathlib.Core.Logic.{⊎_elim}
 use mathlib.Core.Option.{Option, some, none}
@@ -14,7 +14,7 @@ use lib.Seq.{drop-drop, drop-length}
 use Rattle.word.specs.Digit.{is_digit}
 use Rattle.word.specs.Word.{digit_separator, mantissa_radix}
 use Rattle.word.specs.Check.{full_check}
-use Rattle.word.proofs.feature_format.Accepted.{separator-no-digit}
+use Rattle.word.proofs.feature_format.Accepted.{separator_no_digit}
 use Rattle.reader.specs.declared.state.Reader.{Reader}
 use Rattle.reader.specs.declared.state.State.{State}
 use Rattle.reader.specs.declared.passing.Syntax.{Syntax}
@@ -24,11 +24,11 @@ use Rattle.reader.specs.State.{Sheet, fresh_on, count_of}
 use Rattle.reader.specs.Answer.{Outcome}
 use Rattle.reader.specs.Calls.{peek_of, next_of}
 use Rattle.reader.specs.History.{a_take, Step, byte_taken, step_of}
-use Rattle.reader.proofs.passing.Passed.{passes-here, separator_is}
-use Rattle.reader.proofs.ByteTally.Steps.{Moves, peek-step, take_step}
+use Rattle.reader.proofs.passing.Passed.{passes_here, separator_is}
+use Rattle.reader.proofs.ByteTally.Steps.{Moves, peek_step, take_step}
 use Rattle.cells.specs.DigitRun.{sees_digit, digits_from, taken_run}
 use Rattle.cells.specs.Whole.{others}
-use Rattle.cells.proofs.Digits.{digit-taken}
+use Rattle.cells.proofs.Digits.{digit_taken}
 
 -- separators in front change nothing
 others-behind : (separator k : ℕ) (l : List ℕ) → is_separator separator separator ≡ true → others separator (replicate k separator ++ l) ≡ others separator l
@@ -52,7 +52,7 @@ module _ (x : Syntax) (s : List ℕ) (r : Reader) (apart : (b : ℕ) → is_digi
     is_separator_lem : 0 < e.passed → is_separator x.separator x.separator ≡ true
     unfolding reading_with
     is_separator_lem some-passed =
-        let here = passes-here m s (eqb (count_of st e.reader) 0) st.cursor (moves.by_rule some-passed) in
+        let here = passes_here m s (eqb (count_of st e.reader) 0) st.cursor (moves.by_rule some-passed) in
         ap (is_separator x.separator) (sym (separator_is x.separator here.byte here.separator)) ∙ here.separator
 
     pub passed_over : left st.cursor ≡ left (st.cursor + e.passed)
@@ -66,7 +66,7 @@ module _ (x : Syntax) (s : List ℕ) (r : Reader) (apart : (b : ℕ) → is_digi
   -- the peek that ends a run
   peeked_over : (st : State) → left st.cursor ≡ left (peek_of m s st r).state.cursor
   peeked_over st =
-      let moves = peek-step (λ q. m) s st r in
+      let moves = peek_step (λ q. m) s st r in
       passed_over st _ _ moves ∙ ap left (sym (moves.cursor ∙ add-zero (st.cursor + (peek_of m s st r).passed)))
 
   -- a take whose byte is a digit
@@ -105,7 +105,7 @@ module _ (x : Syntax) (s : List ℕ) (r : Reader) (apart : (b : ℕ) → is_digi
     go true e rest =
         rw e
         (peeked_over st
-        ∙ taken_over seen (digit-taken x s r st e)
+        ∙ taken_over seen (digit_taken x s r st e)
         ∙ ap (λ (l : List ℕ). byte_taken next.byte ++ l) rest
         ∙ sym (append_assoc (byte_taken next.byte) (digits_from n m s r next.state).digits (left (digits_from n m s r next.state).state.cursor)))
 
@@ -133,5 +133,5 @@ whole_digits sheet accepted s r end = whole_run (syntax_on sheet r) s r apart (l
     go false e = refl
     go true e =
         let same = separator_is (digit_separator sheet.format) b e in
-        let other = separator-no-digit sheet.format accepted (mantissa_radix sheet.format) (omega arith) in
+        let other = separator_no_digit sheet.format accepted (mantissa_radix sheet.format) (omega arith) in
         absurd (false≢true (sym other ∙ rw same at digit))

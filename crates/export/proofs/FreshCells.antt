@@ -14,7 +14,7 @@ use Rattle.word.specs.Word.{flag, digit_separator, mantissa_radix}
 use Rattle.word.specs.Check.{line, first_failing}
 use Rattle.reader.specs.declared.state.Reader.{Reader}
 use Rattle.reader.specs.declared.passing.Syntax.{Syntax}
-use Rattle.reader.specs.Reading.{flags_of, syntax_of}
+use Rattle.reader.specs.Reading.{syntax_of}
 use Rattle.reader.specs.State.{fresh_of, is_counted}
 use Rattle.reader.specs.Calls.{consecutive_number}
 use Rattle.reader.specs.ZeroSkip.{skip_refusal}
@@ -41,17 +41,17 @@ module _ (n : ℕ) (w : List ℕ) (low : n ≤ 2) where
   abbrev pub word_in : Format
   word_in = record { lo = get_or w 0 0; hi = get_or w 1 0 }
 
-  abbrev pub reader-in : Reader
-  reader-in = (counted_reader n low).reader
+  abbrev pub reader_in : Reader
+  reader_in = (counted_reader n low).reader
 
   pub fresh_in : get_or w 2 0 ≡ 0 → get_or w 3 0 ≡ 0 → get_or w 4 0 ≡ 0 → get_or w 5 0 ≡ 0 → state_in w ≡ fresh_of word_in
   fresh_in cursor integer fraction exponent = rw (cursor, integer, fraction, exponent) refl
 
-  pub reader-of : get_or w 7 0 ≡ 0 → reader_on n (get_or w 7 0) ≡ some reader-in
-  reader-of edition = named_on n (get_or w 7 0) low (rw edition)
+  pub reader_of_lem : get_or w 7 0 ≡ 0 → reader_on n (get_or w 7 0) ≡ some reader_in
+  reader_of_lem edition = named_on n (get_or w 7 0) low (rw edition)
 
   pub between_in : (radix : ℕ) → mantissa_radix word_in ≡ radix → 0 < digit_separator word_in → flag word_in (32 + n) ≡ true
-      → Between (syntax_of word_in reader-in) (digit_separator word_in) radix reader-in
+      → Between (syntax_of word_in reader_in) (digit_separator word_in) radix reader_in
   unfolding syntax_of
   between_in radix own positive internal =
       record {
@@ -63,9 +63,9 @@ module _ (n : ℕ) (w : List ℕ) (low : n ≤ 2) where
       }
 
   -- whether it passes several separators at once
-  pub runs-in : (syntax_of word_in reader-in).flags.consecutive ≡ flag word_in (41 + n)
+  pub runs_in : (syntax_of word_in reader_in).flags.consecutive ≡ flag word_in (41 + n)
   unfolding syntax_of
-  runs-in = rw ((counted_reader n low).flags word_in)
+  runs_in = rw ((counted_reader n low).flags word_in)
 
 -- what the tests of a call have found out
 pub fresh_words_lem : (n : ℕ) (w : List ℕ)

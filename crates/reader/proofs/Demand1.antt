@@ -1,6 +1,6 @@
 -- DEMAND 1: every call answers a result, or one of document 01's numbers, told of its own fault, with nothing taken, nothing passed and
 -- the state that it was given. For every meaning of words, buffer, state and call; nothing is assumed.
-use Rattle.std.proofs.Common.{◌≡◌, ℕ, zero, suc, ◌<◌, Bool, true, false, not, eqb, leb, ◌⊎◌, List, [], ◌∷◌, length, refl, ap, ◌∙◌, inl, inr, arith, eqb-true, le-leb, leb-false}
+use Rattle.std.proofs.Common.{◌≡◌, ℕ, zero, suc, ◌<◌, Bool, true, false, not, eqb, leb, ◌⊎◌, List, [], ◌∷◌, length, refl, ap, ◌∙◌, inl, inr, arith, eqb-true, leb-false}
 use mathlib.Core.Option.{Option, some, none}
 use Rattle.word.specs.declared.format_flags.Format.{Format}
 use Rattle.word.specs.Check.{line, first_failing}
@@ -19,9 +19,9 @@ use Rattle.reader.specs.Plain.{PlainOutcome, plain_peek_of, plain_take_byte, pla
 use Rattle.reader.specs.Column.{column_of}
 use Rattle.reader.specs.History.{Call, peek_by, take_by, read_if_by, zero_skip_by, block_by, Answered, peek_answered, take_answered, read_answered, skip_answered, block_answered, answer_by, answer_to, number_in, taken_in, passed_in, returned, shown_in, seen_in, part_in}
 use Rattle.reader.specs.RefusalKeeps.{PlaceFault, SpecialFault, OwnFault, Fault, ResultOrRefusal, CountRefusalKeeps, PlainRefusalKeeps, ColumnRefusalKeeps}
-use Rattle.reader.proofs.state.Refusals.{turned-away}
-use Rattle.reader.proofs.iterator.ConditionalReads.{read-cases}
-use Rattle.reader.proofs.iterator.Zeros.{skip-cases}
+use Rattle.reader.proofs.state.Refusals.{turned_away}
+use Rattle.reader.proofs.iterator.ConditionalReads.{read_cases}
+use Rattle.reader.proofs.iterator.Zeros.{skip_cases}
 use Rattle.reader.proofs.Repeats.{repeated-stops}
 use Rattle.reader.proofs.ByteTally.Steps.{moves_clear, take_step}
 
@@ -116,7 +116,7 @@ module _ (m : Reading) (s : List ℕ) (st : State) (r : Reader) where
     go (inr away) = inr (ap (λ (o : Outcome). take_byte m r o o.byte) away)
 
   read_succeeds : (wanted : ℕ → Bool) → (peek_of m s st r).refusal ≡ 0 → (read_if_of m s st r wanted).refusal ≡ 0
-  read_succeeds wanted e = read-cases m s st r wanted (λ o. o.refusal ≡ 0) (λ b h. refl) refl (λ h. e)
+  read_succeeds wanted e = read_cases m s st r wanted (λ o. o.refusal ≡ 0) (λ b h. refl) refl (λ h. e)
 
   -- what holds of a result and of the refusal holds of the answer
   either : (P : Outcome → Type 0) (o : Outcome) → Turned o → (o.refusal ≡ 0 → P o) → P (refused own st) → P o
@@ -142,7 +142,7 @@ module _ (m : Reader → Reading) (s : List ℕ) (st : State) where
 
   skip_keeps : (r : Reader) → ResultOrRefusal m s st (zero_skip_by r) (answer_by m s st (zero_skip_by r))
   skip_keeps r =
-      skip-cases (m r) s st r (λ o reads. ResultOrRefusal m s st (zero_skip_by r) (skip_answered r o reads)) (λ clear. inl refl)
+      skip_cases (m r) s st r (λ o reads. ResultOrRefusal m s st (zero_skip_by r) (skip_answered r o reads)) (λ clear. inl refl)
       (λ away. keeps (zero_skip_by r) (skip_answered r (refused_skip (skip_refusal (m r).flags s st r) st) []) refl refl refl refl refl refl (skip_number_lem (m r).flags s st r))
 
   block_keeps : (r : Reader) (n : ℕ) → ResultOrRefusal m s st (block_by r n) (answer_by m s st (block_by r n))
@@ -156,21 +156,21 @@ module _ (m : Reader → Reading) (s : List ℕ) (st : State) where
     go false a t e =
         rw t (keeps (block_by r n) (block_answered r (refused_block (block_refusal s st r) st) []) refl refl refl refl refl refl (block_number_lem (m r).flags s st r))
 
-  pub result-or-refusal : (call : Call) → ResultOrRefusal m s st call (answer_by m s st call)
-  result-or-refusal (peek_by r) =
+  pub result_or_refusal : (call : Call) → ResultOrRefusal m s st call (answer_by m s st call)
+  result_or_refusal (peek_by r) =
       either (m r) s st r (λ o. ResultOrRefusal m s st (peek_by r) (peek_answered r o)) (peek_of (m r) s st r) (peek_turned (m r) s st r) inl
       (keeps (peek_by r) (peek_answered r (refused (refusal_of (m r) s st r) st)) refl refl refl refl refl refl (reader_number_lem (m r).flags s st r))
-  result-or-refusal (take_by r) =
+  result_or_refusal (take_by r) =
       either (m r) s st r (λ o. ResultOrRefusal m s st (take_by r) (take_answered r o)) (next_of (m r) s st r) (take_turned (m r) s st r) inl
       (keeps (take_by r) (take_answered r (refused (refusal_of (m r) s st r) st)) refl refl refl refl refl refl (reader_number_lem (m r).flags s st r))
-  result-or-refusal (read_if_by r wanted) = read_keeps r wanted
-  result-or-refusal (zero_skip_by r) = skip_keeps r
-  result-or-refusal (block_by r n) = block_keeps r n
+  result_or_refusal (read_if_by r wanted) = read_keeps r wanted
+  result_or_refusal (zero_skip_by r) = skip_keeps r
+  result_or_refusal (block_by r n) = block_keeps r n
 
 -- DEMAND 1
 pub demand_1 : (m : Sheet → Reader → Reading) (s : List ℕ) (st : State) (call : Call)
     → ResultOrRefusal (m (sheet_of st)) s st call (answer_to m s st call)
-demand_1 m s st call = result-or-refusal (m (sheet_of st)) s st call
+demand_1 m s st call = result_or_refusal (m (sheet_of st)) s st call
 
 -- THE OTHERS
 
@@ -195,12 +195,12 @@ module _ (m : Reader → Reading) (s : List ℕ) (r : Reader) where
   refuses : (st : State) → eqb (refusal_of (m r) s st r) 0 ≡ false → repeated (length s) call st ≡ refused (refusal_of (m r) s st r) st
   unfolding next_of
   refuses st t =
-      let one : call st ≡ refused (refusal_of (m r) s st r) st = rw (turned-away (m r) s st r t) in
+      let one : call st ≡ refused (refusal_of (m r) s st r) st = rw (turned_away (m r) s st r t) in
       repeated-stops call (length s) st (ap (λ (o : Outcome). o.byte) one) ∙ one
 
-  pub next-all-refusal : (st : State) → ResultOrRefusal m s st (take_by r) (take_answered r (next_all_of (m r) s st r))
+  pub next_all_refusal : (st : State) → ResultOrRefusal m s st (take_by r) (take_answered r (next_all_of (m r) s st r))
   unfolding next_all_of
-  next-all-refusal st = go (eqb (refusal_of (m r) s st r) 0) refl where
+  next_all_refusal st = go (eqb (refusal_of (m r) s st r) 0) refl where
     go : (t : Bool) → eqb (refusal_of (m r) s st r) 0 ≡ t → ResultOrRefusal m s st (take_by r) (take_answered r (next_all_of (m r) s st r))
     go true t = inl (all_clear (length s) st (eqb-true (refusal_of (m r) s st r) 0 t))
     go false t =
@@ -208,9 +208,9 @@ module _ (m : Reader → Reading) (s : List ℕ) (r : Reader) where
         (keeps m s st (take_by r) (take_answered r (refused (refusal_of (m r) s st r) st)) refl refl refl refl refl refl (reader_number_lem (m r).flags s st r))
 
 module _ (m : Reading) (s : List ℕ) (st : State) (r : Reader) where
-  pub current-count-refusal : ((current_count_of m s st r).refusal ≡ 0) ⊎ CountRefusalKeeps s st (current_count_of m s st r)
+  pub current_count_refusal : ((current_count_of m s st r).refusal ≡ 0) ⊎ CountRefusalKeeps s st (current_count_of m s st r)
   unfolding current_count_of
-  current-count-refusal = go (eqb (place_refusal s st) 0) refl where
+  current_count_refusal = go (eqb (place_refusal s st) 0) refl where
     go : (t : Bool) → eqb (place_refusal s st) 0 ≡ t → ((current_count_of m s st r).refusal ≡ 0) ⊎ CountRefusalKeeps s st (current_count_of m s st r)
     go true t = inl (rw t)
     go false t = rw t (or_else (λ fault. record { number = fault; count = refl }) (place_number m.flags s st r))
@@ -246,11 +246,11 @@ module _ (s : List ℕ) (at : ℕ) where
     go (inl e) = inl (success (plain_peek_of s at).byte e)
     go (inr away) = inr (away.0, ap (λ (o : PlainOutcome). plain_take_byte o o.byte) away.1)
 
-  pub plain-peek-refusal : ((plain_peek_of s at).refusal ≡ 0) ⊎ PlainRefusalKeeps s at (plain_peek_of s at)
-  plain-peek-refusal = plain_kept (plain_peek_of s at) plain_peek_turned
+  pub plain_peek_refusal : ((plain_peek_of s at).refusal ≡ 0) ⊎ PlainRefusalKeeps s at (plain_peek_of s at)
+  plain_peek_refusal = plain_kept (plain_peek_of s at) plain_peek_turned
 
-  pub plain-next-refusal : ((plain_next_of s at).refusal ≡ 0) ⊎ PlainRefusalKeeps s at (plain_next_of s at)
-  plain-next-refusal = plain_kept (plain_next_of s at) plain_next_turned
+  pub plain_next_refusal : ((plain_next_of s at).refusal ≡ 0) ⊎ PlainRefusalKeeps s at (plain_next_of s at)
+  plain_next_refusal = plain_kept (plain_next_of s at) plain_next_turned
 
 -- a column: its cells begin fresh, so 16 and 17 hold
 module _ (m : Reading) (f : Format) (r : Reader) (s ends : List ℕ) where
@@ -261,9 +261,9 @@ module _ (m : Reading) (f : Format) (r : Reader) (s ends : List ℕ) where
       place_lines P s (fresh_of f) (line_consecutive m.flags r ∷ []) (λ past. absurd (omega (arith, past))) (λ above. absurd (omega (arith, above)))
       (own_line P m.flags r (inl refl) (λ number own. inr own))
 
-  pub column-refusal : ((column_of m f r s ends).refusal ≡ 0) ⊎ ColumnRefusalKeeps m.flags r (column_of m f r s ends)
+  pub column_refusal : ((column_of m f r s ends).refusal ≡ 0) ⊎ ColumnRefusalKeeps m.flags r (column_of m f r s ends)
   unfolding column_of
-  column-refusal = go (eqb (refusal_with m.flags s (fresh_of f) r) 0) refl where
+  column_refusal = go (eqb (refusal_with m.flags s (fresh_of f) r) 0) refl where
     go :
         (t : Bool) → eqb (refusal_with m.flags s (fresh_of f) r) 0 ≡ t
         → ((column_of m f r s ends).refusal ≡ 0) ⊎ ColumnRefusalKeeps m.flags r (column_of m f r s ends)

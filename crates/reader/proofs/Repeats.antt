@@ -18,10 +18,10 @@ module _ (call : State → Outcome) where
   repeated-stops zero st e = refl
   repeated-stops (suc n) st e = rw e
 
-  pub repeated-goes-on : (n : ℕ) (st : State) (b : ℕ) → (call st).byte ≡ some b
+  pub repeated_goes_on : (n : ℕ) (st : State) (b : ℕ) → (call st).byte ≡ some b
       → repeated (suc n) call st ≡ plus (call st).taken (call st).passed (repeated n call (call st).state)
   unfolding until_none
-  repeated-goes-on n st b e = rw e
+  repeated_goes_on n st b e = rw e
 
 -- an outcome that has a byte took that one, and has moved past it within the buffer
 pub record TakesOne (s : List ℕ) (st : State) (o : Outcome) : Type 0 where
@@ -45,8 +45,8 @@ module _ (s : List ℕ) (call : State → Outcome) (takes : (st : State) (b : �
     go none e rest = rw e
     go (some b) e rest = rw e (rest (omega (arith, (takes st b e).moves)))
 
-  pub repeated-ends : (st : State) → (repeated (length s) call st).byte ≡ none
-  repeated-ends st = ends_after (length s) st (omega arith)
+  pub repeated_ends : (st : State) → (repeated (length s) call st).byte ≡ none
+  repeated_ends st = ends_after (length s) st (omega arith)
 
 module _ (s : List ℕ) (call : State → Outcome) where
   -- Calls from `st` have come to `here`: with what is taken and passed so far they answer what the calls from here answer.
@@ -55,23 +55,23 @@ module _ (s : List ℕ) (call : State → Outcome) where
     pub moves : st.cursor + taken + passed ≡ here.cursor
     pub fits : passed ≤ length s
 
-  pub repeating-starts : (st : State) → Repeating st 0 0 st
-  repeating-starts st =
+  pub repeating_starts : (st : State) → Repeating st 0 0 st
+  repeating_starts st =
       let untouched : length s - 0 ≡ length s = omega arith in
       record { same = rw untouched (sym (plus_zero (repeated (length s) call st))); moves = omega arith; fits = omega arith }
 
   module _ (st : State) (taken passed : ℕ) (here : State) (so_far : Repeating st taken passed here) where
-    pub repeating-ends : (call here).byte ≡ none → plus taken passed (call here) ≡ repeated (length s) call st
-    repeating-ends e = sym (so_far.same ∙ ap (plus taken passed) (repeated-stops call (length s - taken) here e))
+    pub repeating_ends : (call here).byte ≡ none → plus taken passed (call here) ≡ repeated (length s) call st
+    repeating_ends e = sym (so_far.same ∙ ap (plus taken passed) (repeated-stops call (length s - taken) here e))
 
-    pub repeating-goes-on : (b : ℕ) → (call here).byte ≡ some b → TakesOne s here (call here)
+    pub repeating_goes_on : (b : ℕ) → (call here).byte ≡ some b → TakesOne s here (call here)
         → Repeating st (taken + 1) (passed + (call here).passed) (call here).state
-    repeating-goes-on b e n =
+    repeating_goes_on b e n =
         let steps : length s - taken ≡ suc (length s - (taken + 1)) = omega (arith, so_far.moves, n.inside) in
         record {
           same =
               so_far.same
-              ∙ ap (plus taken passed) (ap (λ (k : ℕ). repeated k call here) steps ∙ repeated-goes-on call (length s - (taken + 1)) here b e)
+              ∙ ap (plus taken passed) (ap (λ (k : ℕ). repeated k call here) steps ∙ repeated_goes_on call (length s - (taken + 1)) here b e)
               ∙ plus-plus taken passed (call here).taken (call here).passed _
               ∙ rw n.one;
           moves = omega (arith, so_far.moves, n.moves);

@@ -1,5 +1,5 @@
 -- The calls of a reader (document 01, "Passing", "Readers"), over what the word says to it. Assumes nothing.
-use Rattle.std.specs.Prelude.{ℕ, ◌+◌, Bool, cond, not, ◌&&◌, ◌||◌, List, [], ◌∷◌, length, ◌==◌, nat_le}
+use Rattle.std.specs.Prelude.{ℕ, ◌+◌, Bool, cond, not, ◌&&◌, List, [], ◌∷◌, length, ◌==◌, nat_le}
 use Rattle.std.proofs.Math.Option.{Option, some, none}
 use Rattle.word.specs.Check.{line, first_failing}
 use Rattle.reader.specs.declared.state.Reader.{Reader}

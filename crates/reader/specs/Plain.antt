@@ -1,7 +1,6 @@
 -- The plain reader (document 01, "Without separators"): it never passes, and its state is a cursor alone. Assumes nothing.
 use Rattle.std.specs.Prelude.{ℕ, ◌+◌, cond, List, length, nat_le}
 use Rattle.std.proofs.Math.Option.{Option, some, none}
-use Rattle.reader.specs.declared.noskip.Cursor.{Cursor}
 use Rattle.reader.specs.declared.noskip.Seen.{Seen}
 use Rattle.reader.specs.declared.noskip.Seen.TheVariants as seen
 use Rattle.reader.specs.declared.noskip.Answer.{Answer}

@@ -1,7 +1,7 @@
 -- The zero skip (document 01, "Readers"): reads of `0`, each raising the count, until one fails. Assumes nothing.
-use Rattle.std.specs.Prelude.{ℕ, Bool, cond, not, List, [], ◌∷◌, length, ◌==◌}
+use Rattle.std.specs.Prelude.{ℕ, Bool, cond, List, [], ◌∷◌, length, ◌==◌}
 use Rattle.std.proofs.Math.Option.{Option, some, none}
-use Rattle.word.specs.Check.{line, first_failing}
+use Rattle.word.specs.Check.{first_failing}
 use Rattle.reader.specs.declared.state.Reader.{Reader}
 use Rattle.reader.specs.declared.rule.Flags.{Flags}
 use Rattle.reader.specs.declared.state.State.{State}

@@ -220,13 +220,13 @@ module _ {count : ℕ} {start : Start} {text text' buffer buffer' out : List ℕ
     goes : (start' : Start) → answer ≡ status.Running start' → Follows true turn start.ended buffer' buffer'' (status.Running start')
     goes start' e = written done turn start.ended buffer' buffer'' start' (rw e at follows)
 
-    pub ran-within : (start' : Start) → answer ≡ status.Running start' → length buffer'' ≡ length buffer' → start'.filled ≤ length buffer''
-    ran-within start' e size =
+    pub ran_within : (start' : Start) → answer ≡ status.Running start' → length buffer'' ≡ length buffer' → start'.filled ≤ length buffer''
+    ran_within start' e size =
         let on = continues turn.next turn start.ended _ _ _ buffer' buffer'' start' turns.leads (goes start' e) in
         on.within (omega (arith, turns.kept, size))
 
-    pub ran-goes-on : {start' : Start} {count' : ℕ} → answer ≡ status.Running start' → count' ≡ suc count → Ran count' start' text' buffer''
-    ran-goes-on {start' = start'} e more =
+    pub ran_goes_on : {start' : Start} {count' : ℕ} → answer ≡ status.Running start' → count' ≡ suc count → Ran count' start' text' buffer''
+    ran_goes_on {start' = start'} e more =
         record {
           pieces = ran.pieces ++ (piece_behind turn start' buffer'' ∷ []);
           lines = ran.lines ++ (take turn.end out ∷ []);
@@ -240,11 +240,11 @@ module _ {count : ℕ} {start : Start} {text text' buffer buffer' out : List ℕ
     pub ran_over : answer ≡ status.Over → RanTo text' out (λ n. n ≡ next.Over)
     ran_over e = ran_to (over_said done turn start.ended buffer' buffer'' (rw e at follows))
 
-    pub ran-unread : answer ≡ status.CannotRead → RanTo text' out (λ n. n ≡ next.Read)
-    ran-unread e = ran_to (unread_said done turn start.ended buffer' buffer'' (rw e at follows))
+    pub ran_unread : answer ≡ status.CannotRead → RanTo text' out (λ n. n ≡ next.Read)
+    ran_unread e = ran_to (unread_said done turn start.ended buffer' buffer'' (rw e at follows))
 
-    pub ran-unwritten : RanTo text' out (λ n. Unit {0})
-    ran-unwritten = ran_to tt
+    pub ran_unwritten : RanTo text' out (λ n. Unit {0})
+    ran_unwritten = ran_to tt
 
 pub ran_as : {count count' : ℕ} {start : Start} {text buffer : List ℕ} → count ≡ count' → Ran count start text buffer → Ran count' start text buffer
 ran_as e ran = rw e at ran

@@ -17,11 +17,17 @@ ghost use Rattle.script.specs.Stream.{Ends};
 
 use crate::message::message;
 use crate::stream::{Status, first, go_on, hand_on, take_turn};
-use libc::STDERR_FILENO;
+use std::io::{Stdin, Stdout};
 
 // Takes turns until the run is over. A proved loop has to end, and nothing says that the input does; so the loop counts its turns
 // down, from a number that no run uses up.
-fn take_turns(text: &mut [u8], buffer: &mut [u8], out: &mut [u8]) -> Status
+fn take_turns(
+    input: Stdin,
+    output: Stdout,
+    text: &mut [u8],
+    buffer: &mut [u8],
+    out: &mut [u8],
+) -> Status
     requires { (length text.old ≡ most_text) × (longest_body < length buffer.old) }
     ensures { Ends text.new buffer.new out.new result }
 {
@@ -30,8 +36,8 @@ fn take_turns(text: &mut [u8], buffer: &mut [u8], out: &mut [u8]) -> Status
     while turns > 0 {
         let turn = take_turn(text, start, buffer, out);
         let end = turn.end;
-        let done = hand_on(&out[0..end]);
-        let status = go_on(turn, done, start.ended, buffer);
+        let done = hand_on(output, &out[0..end]);
+        let status = go_on(input, turn, done, start.ended, buffer);
         match status {
             Status::Running(next) => {
                 start = next;
@@ -51,11 +57,11 @@ fn take_turns(text: &mut [u8], buffer: &mut [u8], out: &mut [u8]) -> Status
     Status::Running(start)
 }
 
-fn main() {
+fn main(rt: HostRuntime) {
     let mut text = io::buffer();
     let mut buffer = io::large_buffer();
     let mut out = io::large_buffer();
-    let status = take_turns(&mut text, &mut buffer, &mut out);
+    let status = take_turns(rt.stdin(), rt.stdout(), &mut text, &mut buffer, &mut out);
     let end = message(status, &mut out);
-    io::write_all(STDERR_FILENO, &out[0..end]);
+    let _ = rt.stderr().write_all(&out[0..end]);
 }

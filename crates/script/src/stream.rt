@@ -6,7 +6,7 @@ ghost use Rattle.script.specs.Stream.{next_of, Turns, first_start, arrival_of, R
 use crate::answer::{answer, is_stopped};
 use crate::line::LONGEST;
 use crate::run::Stage;
-use libc::{STDIN_FILENO, STDOUT_FILENO};
+use std::io::{Read, Stdin, Stdout};
 
 // What a turn begins with: how far the run is, how many bytes at the buffer's start have arrived and are not answered, and whether the
 // input has ended.
@@ -115,14 +115,17 @@ pub(crate) fn take_turn(text: &mut [u8], start: Start, buffer: &mut [u8], out: &
 
 // Hands bytes to the system's write, and answers whether it took them all. No contract says which bytes a write took, nor to whom they
 // went, so nothing is promised here.
-pub(crate) fn hand_on(bytes: &[u8]) -> bool {
-    io::write_all(STDOUT_FILENO, bytes)
+pub(crate) fn hand_on(output: Stdout, bytes: &[u8]) -> bool {
+    output.write_all(bytes).is_ok()
 }
 
-// Asks the system's read for bytes. No contract says which bytes it gives, so nothing is promised here; that the part has the length
-// that it had is what its type says.
-fn receive(part: &mut [u8]) -> isize {
-    libc::read(STDIN_FILENO, part)
+// Asks the system's read for bytes, and answers how many came, or -1 where it failed. No contract says which bytes it gives, so nothing
+// is promised here; that the part has the length that it had is what its type says.
+fn receive(mut input: Stdin, part: &mut [u8]) -> isize {
+    match input.read(part) {
+        Ok(came) => came as isize,
+        Err(_) => -1,
+    }
 }
 
 fn arrival_of(got: isize, kept: usize, came: usize) -> Arrival
@@ -139,11 +142,11 @@ fn arrival_of(got: isize, kept: usize, came: usize) -> Arrival
 }
 
 // Reads once, behind the bytes that are kept.
-fn read_more(buffer: &mut [u8], kept: usize) -> Arrival
+fn read_more(input: Stdin, buffer: &mut [u8], kept: usize) -> Arrival
     requires { kept < length buffer.old }
     ensures { Reads kept buffer.old buffer.new result }
 {
-    let got = receive(&mut buffer[kept..]);
+    let got = receive(input, &mut buffer[kept..]);
     let came = io::count(got, &buffer[kept..]);
     arrival_of(got, kept, came)
 }
@@ -169,7 +172,7 @@ fn after_read(turn: Turn, came: Arrival) -> Status
 }
 
 // The run behind a turn whose lines were all written or not, and behind the read that this turn asks for.
-pub(crate) fn go_on(turn: Turn, done: bool, ended: bool, buffer: &mut [u8]) -> Status
+pub(crate) fn go_on(input: Stdin, turn: Turn, done: bool, ended: bool, buffer: &mut [u8]) -> Status
     requires { (turn.kept ≤ length buffer.old) × RoomToRead turn buffer.old }
     ensures { Follows done turn ended buffer.old buffer.new result }
 {
@@ -187,7 +190,7 @@ pub(crate) fn go_on(turn: Turn, done: bool, ended: bool, buffer: &mut [u8]) -> S
             ended,
         }),
         Next::Read => {
-            let came = read_more(buffer, kept);
+            let came = read_more(input, buffer, kept);
             after_read(turn, came)
         }
     }

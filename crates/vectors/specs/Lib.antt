@@ -4,6 +4,5 @@ pub mod Packed
 pub mod Line
 pub mod Call
 pub mod RunEnd
-pub mod Sheets
 pub mod Replay
 pub mod Lines

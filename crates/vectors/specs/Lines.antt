@@ -21,16 +21,14 @@ one_line c differs =
 unfoldable pub of_its_kind : Tally → ℕ → Bool → Tally
 of_its_kind t kind differs =
     cond (eqb kind 87)
-    (record { words = one_line t.words differs; digits = t.digits; calls = t.calls; run_ends = t.run_ends; acts = t.acts; others = t.others })
+    (record { words = one_line t.words differs; digits = t.digits; calls = t.calls; run_ends = t.run_ends; others = t.others })
     (cond (eqb kind 68)
-    (record { words = t.words; digits = one_line t.digits differs; calls = t.calls; run_ends = t.run_ends; acts = t.acts; others = t.others })
+    (record { words = t.words; digits = one_line t.digits differs; calls = t.calls; run_ends = t.run_ends; others = t.others })
     (cond (eqb kind 82)
-    (record { words = t.words; digits = t.digits; calls = one_line t.calls differs; run_ends = t.run_ends; acts = t.acts; others = t.others })
+    (record { words = t.words; digits = t.digits; calls = one_line t.calls differs; run_ends = t.run_ends; others = t.others })
     (cond (eqb kind 69)
-    (record { words = t.words; digits = t.digits; calls = t.calls; run_ends = one_line t.run_ends differs; acts = t.acts; others = t.others })
-    (cond (eqb kind 75)
-    (record { words = t.words; digits = t.digits; calls = t.calls; run_ends = t.run_ends; acts = one_line t.acts differs; others = t.others })
-    (record { words = t.words; digits = t.digits; calls = t.calls; run_ends = t.run_ends; acts = t.acts; others = one_more t.others })))))
+    (record { words = t.words; digits = t.digits; calls = t.calls; run_ends = one_line t.run_ends differs; others = t.others })
+    (record { words = t.words; digits = t.digits; calls = t.calls; run_ends = t.run_ends; others = one_more t.others }))))
 
 unfoldable pub tallied : Tally → ℕ → Verdict → Tally
 tallied t kind Same = of_its_kind t kind false
@@ -41,7 +39,7 @@ abbrev pub no_count : Count
 no_count = record { lines = 0; differences = 0 }
 
 abbrev pub no_lines : Tally
-no_lines = record { words = no_count; digits = no_count; calls = no_count; run_ends = no_count; acts = no_count; others = 0 }
+no_lines = record { words = no_count; digits = no_count; calls = no_count; run_ends = no_count; others = 0 }
 
 -- how many lines are told: each that is not the same, up to 20
 abbrev pub also_told : ℕ → Verdict → ℕ

@@ -1,5 +1,5 @@
 -- What a record is compared with: the definitions that our library is proved to meet. So a record that is found the
--- same shows that they agree with the Rust there, with a plain count at the end of a run, or with a Rust map of a catalogue. Assumes nothing.
+-- same shows that they agree with the Rust there, or with a plain count at the end of a run. Assumes nothing.
 use Rattle.std.specs.Prelude.{ℕ, ◌^◌, cond, ◌&&◌, [], ◌∷◌, eqb, ltb, get_or}
 use Rattle.word.specs.Check.{full_check, plain_check}
 use Rattle.word.specs.Digit.{is_digit}
@@ -8,12 +8,11 @@ use Rattle.vectors.specs.declared.call.Repeated.{Repeated}
 use Rattle.vectors.specs.declared.call.Repeated.TheVariants.{Packed, NoCall}
 use Rattle.vectors.specs.declared.record.Record.{Record}
 use Rattle.vectors.specs.declared.replay.Answer.{Answer}
-use Rattle.vectors.specs.declared.replay.Answer.TheVariants.{Full, Plain, Digit, Call, RunEnd, Act}
+use Rattle.vectors.specs.declared.replay.Answer.TheVariants.{Full, Plain, Digit, Call, RunEnd}
 use Rattle.vectors.specs.declared.replay.Verdict.{Verdict}
 use Rattle.vectors.specs.declared.replay.Verdict.TheVariants.{Same, Differs, NoRecord}
 use Rattle.vectors.specs.Call.{repeated_of}
 use Rattle.vectors.specs.RunEnd.{searched_of}
-use Rattle.vectors.specs.Sheets.{acted_of}
 
 -- the verdict on one answer
 unfoldable pub verdict : Answer → ℕ → ℕ → Verdict
@@ -66,18 +65,10 @@ run_end_verdict r =
     (beside RunEnd (value r 6) (searched_of (value r 0) (value r 1 ∷ value r 2 ∷ value r 3 ∷ value r 4 ∷ value r 5 ∷ [])))
     NoRecord
 
--- `K what lo hi answer`, of 16 digits each: an act on a catalogue
-unfoldable pub act_verdict : Record → Verdict
-act_verdict r =
-    cond (eqb r.shape 0x10101010)
-    (beside Act (value r 3) (acted_of (value r 0) (record { lo = value r 1; hi = value r 2 })))
-    NoRecord
-
--- by the kind: `W` is 87, `D` is 68, `R` is 82, `E` is 69 and `K` is 75
+-- by the kind: `W` is 87, `D` is 68, `R` is 82 and `E` is 69
 unfoldable pub verdict_of : Record → Verdict
 verdict_of r =
     cond (eqb r.kind 87) (word_verdict r)
     (cond (eqb r.kind 68) (digit_verdict r)
     (cond (eqb r.kind 82) (call_verdict r)
-    (cond (eqb r.kind 69) (run_end_verdict r)
-    (cond (eqb r.kind 75) (act_verdict r) NoRecord))))
+    (cond (eqb r.kind 69) (run_end_verdict r) NoRecord)))

@@ -6,6 +6,7 @@ use crate::record::{Record, parse};
 use crate::replay::compare;
 use crate::report;
 use crate::tally::{Tally, one_more};
+use std::io::Stdout;
 
 // How far the input is taken in.
 #[derive(Clone, Copy)]
@@ -33,24 +34,24 @@ impl Progress {
 }
 
 // Takes in what one read gave.
-pub fn take_in(chunk: &[u8], line: &mut [u8], mut progress: Progress) -> Progress
+pub fn take_in(output: Stdout, chunk: &[u8], line: &mut [u8], mut progress: Progress) -> Progress
     ensures { record { line = line.exit.now; progress = result } ≡ all_taken chunk.now (record { line = line.entry.now; progress = progress }) }
 {
     let mut i = 0;
     while i < chunk.len() {
         let byte = chunk[i];
-        progress = take_byte(byte, line, progress);
+        progress = take_byte(output, byte, line, progress);
         i += 1;
     }
     progress
 }
 
 // A line that fills the buffer is too long to be a record: what follows of it is dropped.
-fn take_byte(byte: u8, line: &mut [u8], mut progress: Progress) -> Progress
+fn take_byte(output: Stdout, byte: u8, line: &mut [u8], mut progress: Progress) -> Progress
     ensures { record { line = line.exit.now; progress = result } ≡ byte_taken byte (record { line = line.entry.now; progress = progress }) }
 {
     if byte == b'\n' {
-        return end_line(line, progress);
+        return end_line(output, line, progress);
     }
     let filled = progress.filled;
     if filled < line.len() {
@@ -61,13 +62,13 @@ fn take_byte(byte: u8, line: &mut [u8], mut progress: Progress) -> Progress
 }
 
 // A last line needs no line end.
-pub fn finish(line: &[u8], progress: Progress) -> Progress
+pub fn finish(output: Stdout, line: &[u8], progress: Progress) -> Progress
     ensures { result ≡ finished line.now progress }
 {
     if progress.filled == 0 {
         return progress;
     }
-    end_line(line, progress)
+    end_line(output, line, progress)
 }
 
 fn parse_filled(line: &[u8], filled: usize) -> Record
@@ -80,14 +81,14 @@ fn parse_filled(line: &[u8], filled: usize) -> Record
 }
 
 // Compares a whole line, and tells it if it differs.
-fn end_line(line: &[u8], progress: Progress) -> Progress
+fn end_line(output: Stdout, line: &[u8], progress: Progress) -> Progress
     ensures { result ≡ line_ended line.now progress }
 {
     let parsed = parse_filled(line, progress.filled);
     let kind = parsed.kind;
     let verdict = compare(parsed);
     let ended = one_more(progress.ended);
-    let told = report::tell(ended, verdict, progress.told);
+    let told = report::tell(output, ended, verdict, progress.told);
     Progress {
         filled: 0,
         ended,

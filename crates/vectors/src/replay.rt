@@ -2,12 +2,11 @@
 ghost use Rattle.std.specs.Prelude.{◌≡◌, cond};
 ghost use Rattle.word.specs.Check.{full_check, plain_check};
 ghost use Rattle.word.specs.Digit.{is_digit};
-ghost use Rattle.vectors.specs.Replay.{verdict, or_else, beside, verdict_of, word_verdict, digit_verdict, call_verdict, run_end_verdict, act_verdict};
+ghost use Rattle.vectors.specs.Replay.{verdict, or_else, beside, verdict_of, word_verdict, digit_verdict, call_verdict, run_end_verdict};
 
 use crate::call::{Repeated, repeat};
 use crate::record::Record;
 use crate::run_end::search_again;
-use crate::sheets::repeat_act;
 use word::format_flags::Format;
 
 // `W lo hi full plain`: a word and the answers of both checks.
@@ -31,11 +30,6 @@ pub const RUN_END: u8 = b'E';
 
 const RUN_END_SHAPE: u64 = 0x10_10_10_10_10_10_10;
 
-// `K what lo hi answer`: an addition to a catalogue or a removal, in packed numbers. The answer is a Rust map's.
-pub const ACT: u8 = b'K';
-
-const ACT_SHAPE: u64 = 0x10_10_10_10;
-
 // Which answer of a record it is.
 #[derive(Clone, Copy)]
 pub enum Answer {
@@ -44,7 +38,6 @@ pub enum Answer {
     Digit,
     Call,
     RunEnd,
-    Act,
 }
 
 #[derive(Clone, Copy)]
@@ -72,7 +65,6 @@ pub fn compare(parsed: Record) -> Verdict
         DIGIT => compare_digit(parsed),
         CALL => compare_call(parsed),
         RUN_END => compare_run_end(parsed),
-        ACT => compare_act(parsed),
         _ => Verdict::NoRecord,
     }
 }
@@ -102,21 +94,6 @@ fn compare_run_end(parsed: Record) -> Verdict
     let numbers = [values[1], values[2], values[3], values[4], values[5]];
     let repeated = search_again(values[0], numbers);
     beside(Answer::RunEnd, values[6], repeated)
-}
-
-fn compare_act(parsed: Record) -> Verdict
-    ensures { result ≡ act_verdict parsed }
-{
-    if parsed.shape != ACT_SHAPE {
-        return Verdict::NoRecord;
-    }
-    let values = parsed.values;
-    let format = Format {
-        lo: values[1],
-        hi: values[2],
-    };
-    let repeated = repeat_act(values[0], format);
-    beside(Answer::Act, values[3], repeated)
 }
 
 // What asks for no call is no record.

@@ -4,7 +4,7 @@ ghost use Rattle.vectors.specs.Lines.{told_after};
 
 use crate::replay::{Answer, Difference, Verdict};
 use crate::tally::{Count, Tally};
-use libc::STDOUT_FILENO;
+use std::io::Stdout;
 
 // How many lines are told; the rest are only counted.
 const MOST_TOLD: u64 = 20;
@@ -20,10 +20,10 @@ struct Text {
 }
 
 // Takes the array by reference, where its length is known without a proof.
-fn write_start(bytes: &[u8; TEXT_ROOM], used: usize) {
+fn write_start(output: Stdout, bytes: &[u8; TEXT_ROOM], used: usize) {
     let whole: &[u8] = bytes;
     if used <= whole.len() {
-        io::write_all(STDOUT_FILENO, &whole[0..used]);
+        let _ = output.write_all(&whole[0..used]);
     }
 }
 
@@ -67,7 +67,6 @@ impl Text {
             Answer::Digit => self.then(b"digit"),
             Answer::Call => self.then(b"call"),
             Answer::RunEnd => self.then(b"run end"),
-            Answer::Act => self.then(b"catalogue act"),
         }
     }
 
@@ -87,14 +86,14 @@ impl Text {
             .then(b" differences\n")
     }
 
-    fn write(self) {
+    fn write(self, output: Stdout) {
         let bytes = self.bytes;
-        write_start(&bytes, self.used);
+        write_start(output, &bytes, self.used);
     }
 }
 
 // Tells of a line that differs, unless enough are told, and answers how many are.
-pub fn tell(line: u64, verdict: Verdict, told: u64) -> u64
+pub fn tell(output: Stdout, line: u64, verdict: Verdict, told: u64) -> u64
     ensures { result ≡ told_after told verdict }
 {
     if told >= MOST_TOLD {
@@ -103,24 +102,26 @@ pub fn tell(line: u64, verdict: Verdict, told: u64) -> u64
     match verdict {
         Verdict::Same => told,
         Verdict::Differs(found) => {
-            Text::of_line(line).difference(found).then(b"\n").write();
+            Text::of_line(line)
+                .difference(found)
+                .then(b"\n")
+                .write(output);
             told + 1
         }
         Verdict::NoRecord => {
-            Text::of_line(line).then(b"not a record\n").write();
+            Text::of_line(line).then(b"not a record\n").write(output);
             told + 1
         }
     }
 }
 
-pub fn sum_up(tally: Tally) {
+pub fn sum_up(output: Stdout, tally: Tally) {
     Text::new()
         .count(tally.words, b" words, ")
         .count(tally.digits, b" digits, ")
         .count(tally.calls, b" reader calls, ")
         .count(tally.run_ends, b" run ends, ")
-        .count(tally.acts, b" catalogue acts, ")
         .number(tally.others)
         .then(b" lines that are no record\n")
-        .write();
+        .write(output);
 }

@@ -3,7 +3,7 @@ ghost use Rattle.std.specs.Prelude.{◌≡◌};
 ghost use Rattle.vectors.specs.Lines.{one_more, one_line, of_its_kind, tallied, no_lines};
 
 use crate::record::NO_RECORD;
-use crate::replay::{ACT, CALL, DIGIT, RUN_END, Verdict, WORD};
+use crate::replay::{CALL, DIGIT, RUN_END, Verdict, WORD};
 
 #[derive(Clone, Copy)]
 pub struct Count {
@@ -17,7 +17,6 @@ pub struct Tally {
     pub digits: Count,
     pub calls: Count,
     pub run_ends: Count,
-    pub acts: Count,
     pub others: u64,
 }
 
@@ -53,7 +52,6 @@ impl Tally {
             digits: none,
             calls: none,
             run_ends: none,
-            acts: none,
             others: 0,
         }
     }
@@ -89,10 +87,6 @@ impl Tally {
             RUN_END => {
                 let run_ends = self.run_ends.with(differs);
                 self.run_ends = run_ends;
-            }
-            ACT => {
-                let acts = self.acts.with(differs);
-                self.acts = acts;
             }
             _ => {
                 self.others = one_more(self.others);

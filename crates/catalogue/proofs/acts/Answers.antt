@@ -26,13 +26,13 @@ unfolding add_number
 refused-word c n f bad = first-line (full_check f) (line 25 (not (eqb n 0 || is_listed (word_in c n))) ∷ line 26 (ltb (size c) 64) ∷ []) bad
 
 module _ (c : Catalogue) (n : ℕ) (f : Format) (valid : full_check f ≡ 0) where
-  pub refused-zero : n ≡ 0 → add_number c n f ≡ 25
+  pub refused_zero : n ≡ 0 → add_number c n f ≡ 25
   unfolding add_number
-  refused-zero e = rw (valid, eq-eqb n 0 e)
+  refused_zero e = rw (valid, eq-eqb n 0 e)
 
-  pub refused-listed : (n ≡ 0 → ⊥) → is_listed (word_in c n) ≡ true → add_number c n f ≡ 25
+  pub refused_listed : (n ≡ 0 → ⊥) → is_listed (word_in c n) ≡ true → add_number c n f ≡ 25
   unfolding add_number
-  refused-listed e is = rw (valid, ne_eqb n 0 e, is)
+  refused_listed e is = rw (valid, ne_eqb n 0 e, is)
 
   pub refused_full : (n ≡ 0 → ⊥) → is_listed (word_in c n) ≡ false → 64 ≤ size c → add_number c n f ≡ 26
   unfolding add_number
@@ -52,17 +52,17 @@ refused_adds c n f bad = rw (ne_eqb (add_number c n f) 0 bad)
 
 -- a refused addition leaves the words as they were
 module _ (w : List ℕ) (fits : length w ≡ 194) where
-  pub refused-add-words : (n : ℕ) (f : Format) → (add_number (catalogue_in w) n f ≡ 0 → ⊥) → w ≡ words_of (added (catalogue_in w) n f)
-  refused-add-words n f bad = sym (words_back w fits) ∙ ap words_of (sym (refused_adds (catalogue_in w) n f bad))
+  pub refused_add_words : (n : ℕ) (f : Format) → (add_number (catalogue_in w) n f ≡ 0 → ⊥) → w ≡ words_of (added (catalogue_in w) n f)
+  refused_add_words n f bad = sym (words_back w fits) ∙ ap words_of (sym (refused_adds (catalogue_in w) n f bad))
 
-  pub refused-add-keeps : (n : ℕ) (f : Format) (number : ℕ) → add_number (catalogue_in w) n f ≡ suc number → (suc number ≡ add_number (catalogue_in w) n f) × (w ≡ words_of (added (catalogue_in w) n f))
-  refused-add-keeps n f number e = (sym e, refused-add-words n f (λ z. omega (arith, e, z)))
+  pub refused_add_keeps : (n : ℕ) (f : Format) (number : ℕ) → add_number (catalogue_in w) n f ≡ suc number → (suc number ≡ add_number (catalogue_in w) n f) × (w ≡ words_of (added (catalogue_in w) n f))
+  refused_add_keeps n f number e = (sym e, refused_add_words n f (λ z. omega (arith, e, z)))
 
   -- REMOVALS
 
-  pub refused-remove-keeps : (n : ℕ) → is_listed (word_in (catalogue_in w) n) ≡ false → (27 ≡ remove_number (catalogue_in w) n) × (w ≡ words_of (removed (catalogue_in w) n))
+  pub refused_remove_keeps : (n : ℕ) → is_listed (word_in (catalogue_in w) n) ≡ false → (27 ≡ remove_number (catalogue_in w) n) × (w ≡ words_of (removed (catalogue_in w) n))
   unfolding remove_number removed
-  refused-remove-keeps n is = (rw is, sym (words_back w fits) ∙ ap words_of (unlisted (word_in (catalogue_in w) n) is)) where
+  refused_remove_keeps n is = (rw is, sym (words_back w fits) ∙ ap words_of (unlisted (word_in (catalogue_in w) n) is)) where
     unlisted : (o : Option Format) → is_listed o ≡ false → catalogue_in w ≡ without_listed (catalogue_in w) n o
     unlisted none e = refl
     unlisted (some f) e = absurd (let z : ◌≡◌ {A = ℕ} 0 1 = cc in omega (arith, z))

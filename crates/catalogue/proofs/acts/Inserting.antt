@@ -12,7 +12,7 @@ use Rattle.catalogue.specs.Block.{entry_words, words_of, catalogue_in}
 use Rattle.catalogue.specs.Code.Moves.{moved_up}
 use Rattle.catalogue.specs.Code.Search.{before}
 use Rattle.catalogue.proofs.entries.Parts.{take-size, drop_of_take}
-use Rattle.catalogue.proofs.entries.Words.{words_back, places_64, words_append, words_take, words_drop, block_set, tally-at}
+use Rattle.catalogue.proofs.entries.Words.{words_back, places_64, words_append, words_take, words_drop, block_set, tally_at}
 use Rattle.catalogue.proofs.entries.Place.{inserted_at}
 
 -- the entries from a place on, up to the last one listed, each a place higher
@@ -45,8 +45,8 @@ module _ (c : Catalogue) (len at : ℕ) (e : Entry) (is-len : len ≡ size c) (p
   listing_is : listing c ≡ take len es
   listing_is = sym (take-size c.used es) ∙ ap (λ (n : ℕ). take n es) (sym is-len)
 
-  pub puts-in : inserted e (listing c) ++ drop (suc (size c)) es ≡ take at es ++ e ∷ (take (len - at) (drop at es) ++ drop (suc len) es)
-  puts-in =
+  pub puts_in : inserted e (listing c) ++ drop (suc (size c)) es ≡ take at es ++ e ∷ (take (len - at) (drop at es) ++ drop (suc len) es)
+  puts_in =
       let front : take at (listing c) ≡ take at es = ap (λ (l : List Entry). take at l) listing_is ∙ take-take at len es within in
       let back : drop at (listing c) ≡ take (len - at) (drop at es) = ap (λ (l : List Entry). drop at l) listing_is ∙ drop_of_take at len es within in
       let spot : inserted e (listing c) ≡ take at (listing c) ++ e ∷ drop at (listing c) =
@@ -74,9 +74,9 @@ module _ (w w1 w2 : List ℕ) (len at more tally : ℕ) (e : Entry)
       ∙ block_set c.used c.tally (up_entries at len c.places) at e
       ∙ ap (λ (l : List Entry). c.used ∷ c.tally ∷ entry_words l) (put_there at len e c.places inside)
 
-  pub inserted-words : set (set w2 0 (len + 1)) 1 tally ≡ words_of (with_entry c e)
-  inserted-words =
+  pub inserted_words : set (set w2 0 (len + 1)) 1 tally ≡ words_of (with_entry c e)
+  inserted_words =
       ap (λ (l : List ℕ). set (set l 0 (len + 1)) 1 tally) behind_moves
-      ∙ ap (λ (l : List Entry). (len + 1) ∷ tally ∷ entry_words l) (sym (puts-in c len at e is-len place within))
+      ∙ ap (λ (l : List Entry). (len + 1) ∷ tally ∷ entry_words l) (sym (puts_in c len at e is-len place within))
       ∙ ap (λ (n : ℕ). (n + 1) ∷ tally ∷ entry_words (inserted e (listing c) ++ drop (suc (size c)) c.places)) is-len
-      ∙ ap (λ (n : ℕ). (size c + 1) ∷ n ∷ entry_words (inserted e (listing c) ++ drop (suc (size c)) c.places)) (kept ∙ ap (raised (get_or w 1 0)) adding ∙ ap (λ (n : ℕ). raised n (uses e.format)) (sym (tally-at w fits)))
+      ∙ ap (λ (n : ℕ). (size c + 1) ∷ n ∷ entry_words (inserted e (listing c) ++ drop (suc (size c)) c.places)) (kept ∙ ap (raised (get_or w 1 0)) adding ∙ ap (λ (n : ℕ). raised n (uses e.format)) (sym (tally_at w fits)))

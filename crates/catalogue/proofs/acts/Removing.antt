@@ -13,8 +13,8 @@ use Rattle.catalogue.specs.Block.{entry_words, words_of, catalogue_in}
 use Rattle.catalogue.specs.Code.Moves.{moved_down}
 use Rattle.catalogue.specs.Code.Search.{before}
 use Rattle.catalogue.proofs.entries.Parts.{take-size, drop_of_take}
-use Rattle.catalogue.proofs.entries.Words.{words_back, places_64, words_append, words_take, words_drop, block_set, tally-at, listed-size}
-use Rattle.catalogue.proofs.entries.Place.{without_at, listed-within, listed-word}
+use Rattle.catalogue.proofs.entries.Words.{words_back, places_64, words_append, words_take, words_drop, block_set, tally_at, listed_size}
+use Rattle.catalogue.proofs.entries.Place.{without_at, listed_within, listed_word}
 
 -- the entries behind a place, up to the last one listed, each a place lower
 abbrev down_entries : ℕ → ℕ → List Entry → List Entry
@@ -50,7 +50,7 @@ module _ (c : Catalogue) (len at n : ℕ) (is-len : len ≡ size c) (place : at 
   es = c.places
 
   within : at < len
-  within = omega (arith, listed-within c n at place is)
+  within = omega (arith, listed_within c n at place is)
 
   listing_is : listing c ≡ take len es
   listing_is = sym (take-size c.used es) ∙ ap (λ (k : ℕ). take k es) (sym is-len)
@@ -79,8 +79,8 @@ module _ (w w1 w2 : List ℕ) (len at less tally n : ℕ) (gone : Entry)
 
   behind_moves : w2 ≡ c.used ∷ c.tally ∷ entry_words (without n (listing c) ++ no_entry ∷ drop (size c) c.places)
   behind_moves =
-      let inside : at < len = omega (arith, listed-within c n at place is) in
-      let few : len ≤ 64 = omega (arith, listed-size w fits) in
+      let inside : at < len = omega (arith, listed_within c n at place is) in
+      let few : len ≤ 64 = omega (arith, listed_size w fits) in
       let moved : w1 ≡ c.used ∷ c.tally ∷ entry_words (down_entries at (len - 1) c.places) =
       first ∙ ap (λ (l : List ℕ). moved_down (2 + 3 * at) (2 + 3 * (len - 1)) l) (sym (words_back w fits)) ∙ down_words c.used c.tally at (len - 1) c.places (omega arith) in
       then
@@ -89,10 +89,10 @@ module _ (w w1 w2 : List ℕ) (len at less tally n : ℕ) (gone : Entry)
       ∙ ap (λ (l : List Entry). c.used ∷ c.tally ∷ entry_words l) (free_there at (len - 1) no_entry c.places (omega arith) (omega (arith, places_64 w fits)))
       ∙ ap (λ (l : List Entry). c.used ∷ c.tally ∷ entry_words l) (sym (takes_out c len at n is-len place is))
 
-  pub removed-words : set (set w2 0 (len - 1)) 1 tally ≡ words_of (removed c n)
+  pub removed_words : set (set w2 0 (len - 1)) 1 tally ≡ words_of (removed c n)
   unfolding removed
-  removed-words =
-      rw (listed-word c n at place is)
+  removed_words =
+      rw (listed_word c n at place is)
       (ap (λ (l : List ℕ). set (set l 0 (len - 1)) 1 tally) behind_moves
       ∙ ap (λ (k : ℕ). (k - 1) ∷ tally ∷ entry_words (without n (listing c) ++ no_entry ∷ drop (size c) c.places)) is-len
-      ∙ ap (λ (k : ℕ). (size c - 1) ∷ k ∷ entry_words (without n (listing c) ++ no_entry ∷ drop (size c) c.places)) (kept ∙ ap (λ (k : ℕ). get_or w 1 0 - k) (taking ∙ ap (λ (e : Entry). uses e.format) out) ∙ ap (λ (k : ℕ). k - uses (get_or c.places at no_entry).format) (sym (tally-at w fits))))
+      ∙ ap (λ (k : ℕ). (size c - 1) ∷ k ∷ entry_words (without n (listing c) ++ no_entry ∷ drop (size c) c.places)) (kept ∙ ap (λ (k : ℕ). get_or w 1 0 - k) (taking ∙ ap (λ (e : Entry). uses e.format) out) ∙ ap (λ (k : ℕ). k - uses (get_or c.places at no_entry).format) (sym (tally_at w fits))))

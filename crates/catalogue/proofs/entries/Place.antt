@@ -79,14 +79,14 @@ module _ (c : Catalogue) (n at school : ℕ) (passed : Passed c n at) where
       let one : before n (drop at (listing c)) ≡ suc (before n (drop (suc at) (listing c))) = rw (listed_here c at h, test) in
       record { within = omega arith; smaller = rw on (passed.smaller ∙ omega (arith, one)) }
 
-  pub stops-here : at < size c → school ≡ (get_or c.places at no_entry).school → n ≤ school → at ≡ before n (listing c)
-  stops-here h here more =
+  pub stops_here : at < size c → school ≡ (get_or c.places at no_entry).school → n ≤ school → at ≡ before n (listing c)
+  stops_here h here more =
       let test : ltb (get_or c.places at no_entry).school n ≡ false = le-ltb _ _ (rw here at more) in
       let zero_here : before n (drop at (listing c)) ≡ 0 = rw (listed_here c at h, test) in
       omega (arith, passed.smaller, zero_here)
 
-  pub stops-last : size c ≤ at → at ≡ before n (listing c)
-  stops-last h =
+  pub stops_last : size c ≤ at → at ≡ before n (listing c)
+  stops_last h =
       let none_left : drop at (listing c) ≡ [] = drop_of_length-le (listing c) h in
       let zero_here : before n (drop at (listing c)) ≡ 0 = rw none_left in
       omega (arith, passed.smaller, zero_here)
@@ -96,27 +96,27 @@ module _ (c : Catalogue) (n at : ℕ) (place : at ≡ before n (listing c)) wher
   looked_up_lem : word_in c n ≡ seen_at n (drop at (listing c))
   looked_up_lem = looked_up_at n (listing c) ∙ ap (λ (k : ℕ). seen_at n (drop k (listing c))) (sym place)
 
-  pub stands-there : at < size c → is_listed (word_in c n) ≡ eqb (get_or c.places at no_entry).school n
-  stands-there h = rw (looked_up_lem, listed_here c at h) (by_cases (eqb (get_or c.places at no_entry).school n)) where
+  pub stands_there : at < size c → is_listed (word_in c n) ≡ eqb (get_or c.places at no_entry).school n
+  stands_there h = rw (looked_up_lem, listed_here c at h) (by_cases (eqb (get_or c.places at no_entry).school n)) where
     by_cases : (t : Bool) → is_listed (cond t (some (get_or c.places at no_entry).format) none) ≡ t
     by_cases true = refl
     by_cases false = refl
 
-  pub stands-nowhere : size c ≤ at → is_listed (word_in c n) ≡ false
-  stands-nowhere h = rw (looked_up_lem, drop_of_length-le (listing c) h)
+  pub stands_nowhere : size c ≤ at → is_listed (word_in c n) ≡ false
+  stands_nowhere h = rw (looked_up_lem, drop_of_length-le (listing c) h)
 
   -- of a listed school
   module _ (is : is_listed (word_in c n) ≡ true) where
-    pub listed-within : at < size c
-    listed-within = go (ltb at (size c)) refl where
+    pub listed_within : at < size c
+    listed_within = go (ltb at (size c)) refl where
       go : (t : Bool) → ltb at (size c) ≡ t → at < size c
       go true t = ltb-true at (size c) t
-      go false t = absurd (let z : false ≡ true = sym (stands-nowhere (ltb-false at (size c) t)) ∙ is in let y : ◌≡◌ {A = ℕ} 0 1 = cc in omega (arith, y))
+      go false t = absurd (let z : false ≡ true = sym (stands_nowhere (ltb-false at (size c) t)) ∙ is in let y : ◌≡◌ {A = ℕ} 0 1 = cc in omega (arith, y))
 
-    pub listed-word : word_in c n ≡ some (get_or c.places at no_entry).format
-    listed-word =
-        let test : eqb (get_or c.places at no_entry).school n ≡ true = sym (stands-there listed-within) ∙ is in
-        rw (looked_up_lem, listed_here c at listed-within, test)
+    pub listed_word : word_in c n ≡ some (get_or c.places at no_entry).format
+    listed_word =
+        let test : eqb (get_or c.places at no_entry).school n ≡ true = sym (stands_there listed_within) ∙ is in
+        rw (looked_up_lem, listed_here c at listed_within, test)
 
 pub unlisted_word : (c : Catalogue) (n : ℕ) → is_listed (word_in c n) ≡ false → none ≡ word_in c n
 unlisted_word c n is = go (word_in c n) is where

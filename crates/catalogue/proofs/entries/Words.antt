@@ -107,28 +107,28 @@ module _ (w : List ℕ) (fits : length w ≡ 194) where
       let two : 2 + k ≡ suc (suc k) = omega arith in
       ap (λ (l : List ℕ). get_or l (2 + k) 0) (sym (words_back w fits)) ∙ ap (λ (n : ℕ). get_or (words_of (catalogue_in w)) n 0) two
 
-  pub word-school : (i : ℕ) → get_or w (2 + 3 * i) 0 ≡ (get_or (catalogue_in w).places i no_entry).school
-  word-school i = word_at (3 * i) ∙ school_at (catalogue_in w).places i
+  pub word_school : (i : ℕ) → get_or w (2 + 3 * i) 0 ≡ (get_or (catalogue_in w).places i no_entry).school
+  word_school i = word_at (3 * i) ∙ school_at (catalogue_in w).places i
 
-  pub word-lo : (i : ℕ) → get_or w (2 + 3 * i + 1) 0 ≡ (get_or (catalogue_in w).places i no_entry).format.lo
-  word-lo i =
+  pub word_lo : (i : ℕ) → get_or w (2 + 3 * i + 1) 0 ≡ (get_or (catalogue_in w).places i no_entry).format.lo
+  word_lo i =
       let there : 2 + 3 * i + 1 ≡ 2 + suc (3 * i) = omega arith in
       ap (λ (k : ℕ). get_or w k 0) there ∙ word_at (suc (3 * i)) ∙ lo_at (catalogue_in w).places i
 
-  pub word-hi : (i : ℕ) → get_or w (2 + 3 * i + 2) 0 ≡ (get_or (catalogue_in w).places i no_entry).format.hi
-  word-hi i =
+  pub word_hi : (i : ℕ) → get_or w (2 + 3 * i + 2) 0 ≡ (get_or (catalogue_in w).places i no_entry).format.hi
+  word_hi i =
       let there : 2 + 3 * i + 2 ≡ 2 + suc (suc (3 * i)) = omega arith in
       ap (λ (k : ℕ). get_or w k 0) there ∙ word_at (suc (suc (3 * i))) ∙ hi_at (catalogue_in w).places i
 
-  pub used-at : (catalogue_in w).used ≡ get_or w 0 0
+  pub used_at : (catalogue_in w).used ≡ get_or w 0 0
   unfolding catalogue_in
-  used-at = refl
+  used_at = refl
 
-  pub tally-at : (catalogue_in w).tally ≡ get_or w 1 0
+  pub tally_at : (catalogue_in w).tally ≡ get_or w 1 0
   unfolding catalogue_in
-  tally-at = refl
+  tally_at = refl
 
   -- no more are listed than there are places
-  pub listed-size : size (catalogue_in w) ≡ min (get_or w 0 0) 64
-  listed-size =
-      length-take (catalogue_in w).used (catalogue_in w).places ∙ ap (λ (n : ℕ). min (catalogue_in w).used n) (places_64 w fits) ∙ ap (λ (n : ℕ). min n 64) used-at
+  pub listed_size : size (catalogue_in w) ≡ min (get_or w 0 0) 64
+  listed_size =
+      length-take (catalogue_in w).used (catalogue_in w).places ∙ ap (λ (n : ℕ). min (catalogue_in w).used n) (places_64 w fits) ∙ ap (λ (n : ℕ). min n 64) used_at

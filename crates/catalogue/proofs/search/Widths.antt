@@ -25,14 +25,14 @@ before-drop n (suc k) (e ∷ l) h = go (ltb e.school n) (before-drop n k l) h wh
 
 -- one entry
 module _ (c : Catalogue) (n at school : ℕ) (inside : at < size c) (here : school ≡ (get_or c.places at no_entry).school) where
-  pub one-smaller : school < n → 1 ≡ min 1 (before n (drop at (listing c)))
-  one-smaller less =
+  pub one_smaller : school < n → 1 ≡ min 1 (before n (drop at (listing c)))
+  one_smaller less =
       let test : ltb (get_or c.places at no_entry).school n ≡ true = lt-ltb _ _ (rw here at less) in
       let some_there : before n (drop at (listing c)) ≡ suc (before n (drop (suc at) (listing c))) = rw (listed_here c at inside, test) in
       omega (arith, some_there)
 
-  pub one-not : n ≤ school → 0 ≡ min 1 (before n (drop at (listing c)))
-  one-not more =
+  pub one_not : n ≤ school → 0 ≡ min 1 (before n (drop at (listing c)))
+  one_not more =
       let test : ltb (get_or c.places at no_entry).school n ≡ false = le-ltb _ _ (rw here at more) in
       let none_there : before n (drop at (listing c)) ≡ 0 = rw (listed_here c at inside, test) in
       omega (arith, none_there)

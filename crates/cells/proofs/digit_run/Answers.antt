@@ -17,21 +17,21 @@ use Rattle.reader.specs.declared.skip.Seen.{Seen}
 use Rattle.reader.specs.declared.skip.Seen.TheVariants as sight
 use Rattle.reader.specs.declared.skip.Answer.{Answer}
 use Rattle.reader.specs.declared.skip.Peeked.{Peeked}
-use Rattle.reader.specs.Place.{is_separator, byte_at}
+use Rattle.reader.specs.Place.{byte_at}
 use Rattle.reader.specs.Reading.{Reading, syntax_for, syntax_on, reading_with, reading_for, has_any_flag, passed_at}
 use Rattle.reader.specs.State.{Sheet, sheet_of, count_of, moved_to}
 use Rattle.reader.specs.Code.TakeSums.{with_count}
 use Rattle.reader.specs.Answer.{Outcome, outcome_of, peek_outcome_of, seen_byte}
 use Rattle.reader.specs.Calls.{peek_of, next_of}
-use Rattle.reader.proofs.passing.Places.{byte-here, no_byte, no_separator}
-use Rattle.reader.proofs.passing.Landings.{stays-on-other, stays-at-end}
+use Rattle.reader.proofs.passing.Places.{byte_here, no_byte, no_separator}
+use Rattle.reader.proofs.passing.Landings.{stays_on_other, stays_at_end}
 use Rattle.reader.proofs.state.Updates.{state_at, at_cursor, counted_tells}
 use Rattle.reader.proofs.ByteTally.Steps.{take_step}
 use Rattle.cells.specs.declared.digit_run.Step.{Step}
 use Rattle.cells.specs.declared.digit_run.Step.TheVariants as step
 use Rattle.cells.specs.DigitRun.{sees_digit}
 use Rattle.cells.specs.Code.Steps.{step_of_byte, step_behind, Stands, StepTold, Takes, Ends}
-use Rattle.cells.proofs.digit_run.Stepping.{further, sees, takes-byte, takes_none, place_inside, ends, count_behind, takes, ends-behind}
+use Rattle.cells.proofs.digit_run.Stepping.{further, sees, takes_byte, takes_none, place_inside, ends, count_behind, takes, ends_behind}
 
 -- a place and a count leave what of the state says how it is read
 sheet_stays : (st : State) (r : Reader) (at count : ℕ) → sheet_of (state_at st r at count) ≡ sheet_of st
@@ -49,16 +49,16 @@ take_fits m s st r over before in_Buffer =
 
 -- a take's answer as a step
 module _ (took : Answer) (r : Reader) (over : ℕ) (o : Outcome) (told : outcome_of took ≡ o) where
-  pub step-taken : (c : ℕ) → took.report.seen ≡ sight.Byte c → (behind : ℕ) → behind ≡ count_of took.state r
+  pub step_taken : (c : ℕ) → took.report.seen ≡ sight.Byte c → (behind : ℕ) → behind ≡ count_of took.state r
       → step.Taken c took.state.cursor behind (over + took.report.passed) ≡ step_behind r over o
-  step-taken c e behind counts =
+  step_taken c e behind counts =
       let one : step.Taken c took.state.cursor behind (over + took.report.passed) ≡ step_of_byte (some c) r over (outcome_of took) = rw counts in
       let known : step_of_byte (seen_byte took.report.seen) r over (outcome_of took) ≡ step_of_byte (some c) r over (outcome_of took) =
       ap (λ (b : Option ℕ). step_of_byte b r over (outcome_of took)) (ap seen_byte e) in
       one ∙ sym known ∙ ap (step_behind r over) told
 
-  pub step-over : seen_byte took.report.seen ≡ none → step.Over took.state.cursor (over + took.report.passed) ≡ step_behind r over o
-  step-over e =
+  pub step_over : seen_byte took.report.seen ≡ none → step.Over took.state.cursor (over + took.report.passed) ≡ step_behind r over o
+  step_over e =
       let known : step_of_byte (seen_byte took.report.seen) r over (outcome_of took) ≡ step_of_byte none r over (outcome_of took) =
       ap (λ (b : Option ℕ). step_of_byte b r over (outcome_of took)) e in
       sym known ∙ ap (step_behind r over) told
@@ -71,11 +71,11 @@ sees_digit_lem x o b e d is t known = ap (λ (y : Seen). sees_digit (reading_wit
 
 -- what a step is told of, by its case
 module _ (m : Reading) (s : List ℕ) (r : Reader) (st : State) (at count : ℕ) (one : Step) (told : StepTold m s r st at count one) where
-  pub told-takes : {c to behind over : ℕ} → one ≡ step.Taken c to behind over → Takes m s r st at count c to behind over
-  told-takes e = rw e at told
+  pub told_takes : {c to behind over : ℕ} → one ≡ step.Taken c to behind over → Takes m s r st at count c to behind over
+  told_takes e = rw e at told
 
-  pub told-ends : {to over : ℕ} → one ≡ step.Over to over → Ends m s r st at count to over
-  told-ends e = rw e at told
+  pub told_ends : {to over : ℕ} → one ≡ step.Over to over → Ends m s r st at count to over
+  told_ends e = rw e at told
 
 module _ (x : Syntax) (s : List ℕ) (r : Reader) (st : State) where
   abbrev m : Reading
@@ -105,11 +105,11 @@ module _ (x : Syntax) (s : List ℕ) (r : Reader) (st : State) where
       go true e =
           let h = ltb-true to (length s) e in
           let behind = count_behind m (get_or s to 0) count in
-          rw (takes-byte m s r st place count on to refl h, counted_tells st r (to + 1) behind here.counted, at_cursor st r (to + 1) behind)
+          rw (takes_byte m s r st place count on to refl h, counted_tells st r (to + 1) behind here.counted, at_cursor st r (to + 1) behind)
           (takes m s r st at count stands place refl digit to refl h)
       go false e =
           let out = ltb-false to (length s) e in
-          rw (takes_none m s r st place count on to refl out, at_cursor st r to count) (ends-behind m s r st at count stands place refl digit to refl out)
+          rw (takes_none m s r st place count on to refl out, at_cursor st r to count) (ends_behind m s r st at count stands place refl digit to refl out)
 
     -- a peek's answer from there
     module _ (own : x ≡ syntax_for st r) (from : State) (is : from ≡ state_at st r at count) (seen : Peeked) (peeks : peek_outcome_of seen ≡ peek_of (reading_for from r) s from r) where
@@ -129,8 +129,8 @@ module _ (x : Syntax) (s : List ℕ) (r : Reader) (st : State) where
       left : seen.state ≡ state_at st r place count
       left = ap (λ (o : Outcome). o.state) answered
 
-      pub left-fits : (seen.report.passed ≤ seen.state.cursor) × (seen.state.cursor ≤ length s)
-      left-fits =
+      pub left_fits : (seen.report.passed ≤ seen.state.cursor) × (seen.state.cursor ≤ length s)
+      left_fits =
           let at_place : seen.state.cursor ≡ place = ap (λ (h : State). h.cursor) left ∙ at_cursor st r place count in
           (omega (arith, at_place, passed_seen), omega (arith, at_place, place_inside m s r st at count stands place refl))
 
@@ -140,9 +140,9 @@ module _ (x : Syntax) (s : List ℕ) (r : Reader) (st : State) where
           rw (left, at_cursor st r place count, passed_seen) (ends m s r st at count stands place refl (rw byte_seen at other))
 
       -- a digit is seen, and the take goes from there
-      pub told-taken : sees_digit m (seen_byte seen.report.seen) ≡ true → (step : Step)
+      pub told_taken : sees_digit m (seen_byte seen.report.seen) ≡ true → (step : Step)
           → step ≡ step_behind r seen.report.passed (next_of (reading_for seen.state r) s seen.state r) → StepTold m s r st at count step
-      told-taken digit step took =
+      told_taken digit step took =
           let same : step ≡ step_behind r (place - at) (next_of m s (state_at st r place count) r) = rw (left, as_own own place count, passed_seen) at took in
           rw same (take_told (rw byte_seen at digit))
 
@@ -155,11 +155,11 @@ module _ (x : Syntax) (s : List ℕ) (r : Reader) (st : State) where
       counts_on true digit e = rw e
       counts_on false digit e = refl
 
-      pub plain-taken : is_digit (get_or s at 0) x.radix ≡ true → (behind : ℕ) → behind ≡ cond (has_any_flag x.flags) (count + 1) count
+      pub plain_taken : is_digit (get_or s at 0) x.radix ≡ true → (behind : ℕ) → behind ≡ cond (has_any_flag x.flags) (count + 1) count
           → Takes m s r st at count (get_or s at 0) (at + 1) behind 0
       unfolding reading_with
-      plain-taken digit behind counts =
-          let seen : sees_digit m (byte_at s at) ≡ true = rw (byte-here s at inside) digit in
+      plain_taken digit behind counts =
+          let seen : sees_digit m (byte_at s at) ≡ true = rw (byte_here s at inside) digit in
           let none_passed : at - at + (at - at) ≡ 0 = omega arith in
           let same : count_behind m (get_or s at 0) count ≡ behind = counts_on (has_any_flag x.flags) (is_digit (get_or s at 0) x.radix) digit ∙ sym counts in
           rw (none_passed, same) at (takes m s r st at count stands at stays seen at stays inside)
@@ -168,17 +168,17 @@ module _ (x : Syntax) (s : List ℕ) (r : Reader) (st : State) where
       unfolding reading_with
       plain_over other =
           let none_passed : at - at ≡ 0 = omega arith in
-          rw none_passed at (ends m s r st at count stands at stays (rw (byte-here s at inside) other))
+          rw none_passed at (ends m s r st at count stands at stays (rw (byte_here s at inside) other))
 
     -- nothing is passed at a byte that is no separator
-    pub passes-none-here : (refused : Bool) → at < length s → (refused ≡ true → passed_at m s (eqb count 0) at ≡ 0) → (differs : Bool)
+    pub passes_none_here : (refused : Bool) → at < length s → (refused ≡ true → passed_at m s (eqb count 0) at ≡ 0) → (differs : Bool)
         → (differs ≡ true → get_or s at 0 ≡ x.separator → ⊥) → (differs || refused) ≡ true → passed_at m s (eqb count 0) at ≡ 0
-    passes-none-here refused inside known true apart e =
-        omega (arith, stays-on-other x s (eqb count 0) at inside (no_separator x.separator (get_or s at 0) (apart refl)))
-    passes-none-here refused inside known false apart e = known e
+    passes_none_here refused inside known true apart e =
+        omega (arith, stays_on_other x s (eqb count 0) at inside (no_separator x.separator (get_or s at 0) (apart refl)))
+    passes_none_here refused inside known false apart e = known e
 
-    pub end-over : length s ≤ at → Ends m s r st at count at 0
-    end-over out =
-        let stays : at ≡ at + passed_at m s (eqb count 0) at = stays-at-end x s (eqb count 0) at out in
+    pub end_over : length s ≤ at → Ends m s r st at count at 0
+    end_over out =
+        let stays : at ≡ at + passed_at m s (eqb count 0) at = stays_at_end x s (eqb count 0) at out in
         let none_passed : at - at ≡ 0 = omega arith in
         rw none_passed at (ends m s r st at count stands at stays (rw (no_byte s at out)))

@@ -1,8 +1,8 @@
 -- What a peek passes in front of a digit may be counted before the step that takes the digit: for loops that go over a separator and
 -- its digit in two turns. Assumes nothing.
-use mathlib.Core.Path.{◌≡◌, ◌∙◌, refl, sym, ap}
+use mathlib.Core.Path.{◌≡◌, ◌∙◌, refl, ap}
 use mathlib.Core.Bool.{true, false}
-use mathlib.Core.List.{List, ◌∷◌}
+use mathlib.Core.List.{List}
 use Prim.Native.Nat.{ℕ, suc, ◌+◌, ◌-◌, ◌<◌}
 use native.Mathlib.Omega.{arith}
 use lib.Dec.{eqb}
@@ -14,7 +14,7 @@ use Rattle.reader.specs.Place.{byte_at}
 use Rattle.reader.specs.Reading.{Reading, reading_with, passed_at}
 use Rattle.cells.specs.Value.{value_from}
 use Rattle.cells.specs.DigitRun.{Digits, sees_digit}
-use Rattle.cells.specs.Code.Steps.{Stands, run_at, digit_then, Takes}
+use Rattle.cells.specs.Code.Steps.{Stands, run_at, digit_then}
 use Rattle.cells.proofs.digit_run.Stepping.{further, place_inside, takes, digit_inside}
 use Rattle.cells.proofs.digit_run.RunLoop.{Running}
 
@@ -57,9 +57,9 @@ module _ (x : Syntax) (s : List ℕ) (r : Reader) (st : State) (at count value t
       let none_passed : place - place + (place - place) ≡ 0 = omega arith in
       rw left (same_but_passed (get_or s place 0) (place - at) _ _ _ (rw over at from-separator) (rw none_passed at from-digit))
 
-  pub running-past : Running x s r st place count value taken (passed + (place - at)) false
+  pub running_past : Running x s r st place count value taken (passed + (place - at)) false
   unfolding reading_with
-  running-past =
+  running_past =
       record {
         worth = now.worth ∙ ap (value_from x.radix value) same.0;
         many = now.many ∙ ap (λ (d : List ℕ). taken + length d) same.0;

@@ -1,11 +1,10 @@
 -- A separator that was refused and taken, with the consecutive flag, by a reader that has counted: the next one of its run is refused
 -- too, so that the loop need not ask. Assumes nothing.
 use mathlib.Core.Path.{◌≡◌, ◌∙◌, refl, sym, ap}
-use mathlib.Core.Bool.{Bool, true, false, not, ◌&&◌}
+use mathlib.Core.Bool.{Bool, true, false, not}
 use mathlib.Core.List.{List}
-use Prim.Native.Nat.{ℕ, suc, ◌+◌, ◌≤◌, ◌<◌}
+use Prim.Native.Nat.{ℕ, suc, ◌+◌, ◌<◌}
 use native.Mathlib.Omega.{arith}
-use native.Mathlib.Numerals.{add-one}
 use borrow.Author.Tests.{eqb-true, eqb-false, ne_eqb, not-true, ltb-true, ltb-false}
 use lib.Dec.{eqb, ltb}
 use lib.ListN.{length, drop, get_or}
@@ -14,10 +13,10 @@ use Rattle.reader.specs.declared.state.Reader.{Reader}
 use Rattle.reader.specs.declared.state.State.{State}
 use Rattle.reader.specs.declared.passing.Syntax.{Syntax}
 use Rattle.reader.specs.Place.{is_separator, separator_run}
-use Rattle.reader.specs.Reading.{Reading, reading_with, may_pass, passed_at}
+use Rattle.reader.specs.Reading.{reading_with, passed_at}
 use Rattle.reader.proofs.passing.Passed.{separator_is, passes_none}
-use Rattle.reader.proofs.passing.Landings.{stays-on-other, stays-at-end}
-use Rattle.reader.proofs.passing.RefusedRuns.{refused-first, refused-next}
+use Rattle.reader.proofs.passing.Landings.{stays_on_other, stays_at_end}
+use Rattle.reader.proofs.passing.RefusedRuns.{refused-first, refused_next}
 use Rattle.cells.specs.Code.Steps.{Takes, still_refused}
 use Rattle.cells.proofs.Booleans.{both}
 
@@ -32,18 +31,18 @@ module _ (x : Syntax) (s : List ℕ) (at : ℕ) (inside : at < length s) (consec
       let run : separator_run x.separator (drop at s) ≡ suc (suc (separator_run x.separator (drop (suc (suc at)) s))) =
       rw (drop-cons s at 0 inside, one, drop-cons s (suc at) 0 more, two) in
       passes_none (reading_with x) s is_first (suc at)
-      (refused-next (reading_with x) s consecutive is_first at _ run (refused-first (reading_with x) s consecutive is_first at _ run refused))
+      (refused_next (reading_with x) s consecutive is_first at _ run (refused-first (reading_with x) s consecutive is_first at _ run refused))
 
   pub run_refused : passed_at (reading_with x) s is_first (suc at) ≡ 0
   run_refused = go (ltb (suc at) (length s)) (is_separator x.separator (get_or s (suc at) 0)) refl refl where
     go : (t u : Bool) → ltb (suc at) (length s) ≡ t → is_separator x.separator (get_or s (suc at) 0) ≡ u → passed_at (reading_with x) s is_first (suc at) ≡ 0
-    go false u e f = omega (arith, stays-at-end x s is_first (suc at) (ltb-false (suc at) (length s) e))
-    go true false e f = omega (arith, stays-on-other x s is_first (suc at) (ltb-true (suc at) (length s) e) f)
+    go false u e f = omega (arith, stays_at_end x s is_first (suc at) (ltb-false (suc at) (length s) e))
+    go true false e f = omega (arith, stays_on_other x s is_first (suc at) (ltb-true (suc at) (length s) e) f)
     go true true e f = refused-behind (ltb-true (suc at) (length s) e) f
 
 module _ (x : Syntax) (s : List ℕ) (r : Reader) (st : State) (at count c to behind over : ℕ) (took : Takes (reading_with x) s r st at count c to behind over) where
-  pub next-refused : still_refused x c over count ≡ true → passed_at (reading_with x) s (eqb behind 0) to ≡ 0
-  next-refused e =
+  pub next_refused : still_refused x c over count ≡ true → passed_at (reading_with x) s (eqb behind 0) to ≡ 0
+  next_refused e =
       let tests = both _ (not (eqb count 0)) e in
       let more = both _ (eqb over 0) tests.0 in
       let flags = both x.flags.consecutive (eqb c x.separator) more.0 in

@@ -1,31 +1,27 @@
 -- The loop of a digit run: its numbers stand for the digits taken so far, and the run goes on from them. Over every word and radix.
 -- Assumes nothing.
-use mathlib.Core.Path.{◌≡◌, ◌∙◌, refl, sym, ap}
-use mathlib.Core.Bool.{Bool, true, false, cond, not, ◌&&◌}
-use mathlib.Core.List.{List, [], ◌∷◌}
-use mathlib.Core.Option.{Option, some, none}
-use mathlib.Core.Logic.{⊎_elim}
-use Prim.Native.Nat.{ℕ, zero, suc, ◌+◌, ◌-◌, ◌≤◌, ◌<◌, ◌^◌}
-use native.Mathlib.Nat.{eq-zero-or-pos}
+use mathlib.Core.Path.{◌≡◌, ◌∙◌, refl, ap}
+use mathlib.Core.Bool.{Bool, true, false}
+use mathlib.Core.List.{List, []}
+use Prim.Native.Nat.{ℕ, suc, ◌+◌, ◌-◌, ◌≤◌, ◌<◌, ◌^◌}
 use native.Mathlib.Omega.{arith}
-use borrow.Author.Tests.{lt-ltb, le-ltb, eqb-true, eqb-false, ne_eqb, eq-eqb, not-true}
-use lib.Dec.{eqb, ltb}
-use lib.ListN.{length, get_or}
+use borrow.Author.Tests.{lt-ltb, le-ltb, ne_eqb}
+use lib.Dec.{eqb}
+use lib.ListN.{length}
 use Rattle.word.specs.Digit.{digit_value}
-use Rattle.word.proofs.Lines.{line_first}
 use Rattle.reader.specs.declared.state.Reader.{Reader}
 use Rattle.reader.specs.declared.state.State.{State}
 use Rattle.reader.specs.declared.passing.Syntax.{Syntax}
 use Rattle.reader.specs.Reading.{Reading, reading_with, passed_at}
-use Rattle.reader.specs.State.{count_of, count_sum}
+use Rattle.reader.specs.State.{count_of}
 use Rattle.reader.specs.ZeroSkip.{skip_refusal}
 use Rattle.reader.proofs.state.Refusals.{within, skip_admits}
 use Rattle.reader.proofs.state.Updates.{state_at, own_count_lem, sum_on}
 use Rattle.cells.specs.Value.{with_digit, value_from, value_of}
-use Rattle.cells.specs.DigitRun.{Digits, RunOutcome, refused_run, read_run, digits_from, taken_run, run_refusal, digit_run_of}
+use Rattle.cells.specs.DigitRun.{Digits, refused_run, taken_run, run_refusal, digit_run_of}
 use Rattle.cells.specs.Code.Steps.{Stands, run_at, digit_then, Takes, Ends, still_refused, ended_run}
 use Rattle.cells.proofs.value.Growing.{stays_above, radix_above}
-use Rattle.cells.proofs.digit_run.RefusedRuns.{next-refused}
+use Rattle.cells.proofs.digit_run.RefusedRuns.{next_refused}
 
 module _ (x : Syntax) (s : List ℕ) (r : Reader) (st : State) where
   abbrev m : Reading
@@ -60,9 +56,9 @@ module _ (x : Syntax) (s : List ℕ) (r : Reader) (st : State) where
       }
 
   module _ (clear : skip_refusal x.flags s st r ≡ 0) where
-    pub running-starts : Running st.cursor (count_of st r) 0 0 0 false
+    pub running_starts : Running st.cursor (count_of st r) 0 0 0 false
     unfolding value_of
-    running-starts =
+    running_starts =
         let admits = skip_admits x.flags s st r clear in
         let inside = within x.flags s st r admits.1 in
         let untouched : length s - 0 ≡ length s = omega arith in
@@ -93,9 +89,9 @@ module _ (x : Syntax) (s : List ℕ) (r : Reader) (st : State) where
         on_many : length all.digits ≡ taken + 1 + length (run_at m s r st (length s - (taken + 1)) to behind).digits
         on_many = now.many ∙ ap (λ (d : Digits). taken + length d.digits) on ∙ omega arith
 
-        pub running-on : (v : ℕ) → v ≡ with_digit x.radix value (digit_value c) → v < 2 ^ 64
+        pub running_on : (v : ℕ) → v ≡ with_digit x.radix value (digit_value c) → v < 2 ^ 64
             → Running to behind v (taken + 1) (passed + over) (still_refused x c over count)
-        running-on v same fits =
+        running_on v same fits =
             record {
               worth = rw same on_worth;
               many = on_many;
@@ -109,18 +105,18 @@ module _ (x : Syntax) (s : List ℕ) (r : Reader) (st : State) where
                     inside = took.inside;
                   };
               moved = omega (arith, now.moved, took.moves);
-              known = next-refused x s r st at count c to behind over took;
+              known = next_refused x s r st at count c to behind over took;
               small = fits;
             }
 
         -- the numbers stay within the buffer, and the place moves on
-        pub running-room : (taken < length s) × ((passed + over ≤ length s) × (length s - to < length s - at))
-        running-room = (omega (arith, now.moved, took.moves, took.inside), (omega (arith, now.moved, took.moves, took.inside), omega (arith, took.moves, took.inside)))
+        pub running_room : (taken < length s) × ((passed + over ≤ length s) × (length s - to < length s - at))
+        running_room = (omega (arith, now.moved, took.moves, took.inside), (omega (arith, now.moved, took.moves, took.inside), omega (arith, took.moves, took.inside)))
 
         -- a value above 64 bits refuses the run, whatever digits follow
-        pub running-outgrown : 2 ^ 64 ≤ with_digit x.radix value (digit_value c) → refused_run 24 st ≡ digit_run_of x s st r
+        pub running_outgrown : 2 ^ 64 ≤ with_digit x.radix value (digit_value c) → refused_run 24 st ≡ digit_run_of x s st r
         unfolding digit_run_of run_refusal
-        running-outgrown above =
+        running_outgrown above =
             let some_taken : eqb (length all.digits) 0 ≡ false = ne_eqb (length all.digits) 0 (λ e. omega (arith, e, on_many)) in
             let big : 2 ^ 64 ≤ value_of x.radix all.digits =
             rw on_worth (stays_above x.radix (with_digit x.radix value (digit_value c)) (run_at m s r st (length s - (taken + 1)) to behind).digits (radix_above value x.radix c now.small above) above) in
@@ -128,8 +124,8 @@ module _ (x : Syntax) (s : List ℕ) (r : Reader) (st : State) where
 
       -- a step that takes none
       module _ (to over : ℕ) (last : Ends m s r st at count to over) where
-        pub over-fits : passed + over ≤ length s
-        over-fits = omega (arith, now.moved, last.moves, last.inside)
+        pub over_fits : passed + over ≤ length s
+        over_fits = omega (arith, now.moved, last.moves, last.inside)
 
         rest : run_at m s r st (length s - taken) at count ≡ record { digits = []; passed = over; state = state_at st r to count }
         rest = last.all (length s - taken) (omega (arith, now.moved))
@@ -146,9 +142,9 @@ module _ (x : Syntax) (s : List ℕ) (r : Reader) (st : State) where
         end_all : all.state ≡ state_at st r to count
         end_all = now.end ∙ ap (λ (d : Digits). d.state) rest
 
-        pub running-over : ended_run st value taken (passed + over) (state_at st r to count) ≡ digit_run_of x s st r
+        pub running_over : ended_run st value taken (passed + over) (state_at st r to count) ≡ digit_run_of x s st r
         unfolding digit_run_of run_refusal
-        running-over = go (eqb taken 0) refl where
+        running_over = go (eqb taken 0) refl where
           go : (t : Bool) → eqb taken 0 ≡ t → ended_run st value taken (passed + over) (state_at st r to count) ≡ digit_run_of x s st r
           go true t = rw (t, clear, many_all, t)
           go false t = rw (t, clear, many_all, t, worth_all, lt-ltb value (2 ^ 64) now.small, passed_all, end_all)

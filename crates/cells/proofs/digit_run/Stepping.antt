@@ -1,10 +1,9 @@
 -- A step of a digit run from a place with a count, over any reading: where it ends the run, and what it takes. Assumes nothing.
-use mathlib.Core.Path.{◌≡◌, ◌∙◌, refl, sym, ap}
+use mathlib.Core.Path.{◌≡◌, refl}
 use mathlib.Core.Bool.{Bool, true, false, cond, ◌&&◌}
 use mathlib.Core.List.{List, []}
 use mathlib.Core.Option.{Option, some, none}
 use Prim.Native.Nat.{ℕ, zero, suc, ◌+◌, ◌-◌, ◌≤◌, ◌<◌}
-use native.Mathlib.Nat.{add-zero}
 use native.Mathlib.Omega.{arith}
 use lib.Dec.{eqb}
 use lib.ListN.{length, get_or}
@@ -16,10 +15,10 @@ use Rattle.reader.specs.Reading.{Reading, has_any_flag, passed_at}
 use Rattle.reader.specs.State.{count_sum, moved_to, counted_by}
 use Rattle.reader.specs.Code.TakeSums.{with_count}
 use Rattle.reader.specs.Calls.{peek_of, taken_from, next_of}
-use Rattle.reader.proofs.passing.Places.{byte-here, no_byte, byte_inside}
-use Rattle.reader.proofs.passing.Passed.{passed-fits}
+use Rattle.reader.proofs.passing.Places.{byte_here, no_byte, byte_inside}
+use Rattle.reader.proofs.passing.Passed.{passed_fits}
 use Rattle.reader.proofs.state.Updates.{state_at, past_byte, counts_one, counted_tells}
-use Rattle.reader.proofs.skip.LoopState.{Standing, peeks-at}
+use Rattle.reader.proofs.skip.LoopState.{Standing, peeks_at}
 use Rattle.cells.specs.DigitRun.{sees_digit, digits_from}
 use Rattle.cells.specs.Code.Steps.{Stands, run_at, digit_then, Takes, Ends}
 
@@ -67,14 +66,14 @@ module _ (m : Reading) (s : List ℕ) (r : Reader) (st : State) where
     -- a peek from there
     pub sees : (place : ℕ) → place ≡ at + passed_at m s (eqb count 0) at
         → peek_of m s (state_at st r at count) r ≡ record { refusal = 0; byte = byte_at s place; taken = 0; passed = place - at; state = state_at st r place count }
-    sees place lands = peeks-at s r st at count standing m here.clear place lands
+    sees place lands = peeks_at s r st at count standing m here.clear place lands
 
     -- a take from there
-    pub takes-byte : (to : ℕ) → to ≡ at + passed_at m s (eqb count 0) at → to < length s
+    pub takes_byte : (to : ℕ) → to ≡ at + passed_at m s (eqb count 0) at → to < length s
         → next_of m s (state_at st r at count) r
         ≡ record { refusal = 0; byte = some (get_or s to 0); taken = 1; passed = to - at; state = state_at st r (to + 1) (count_behind m (get_or s to 0) count) }
     unfolding next_of
-    takes-byte to lands h = rw (sees to lands, byte-here s to h, taken_to to (get_or s to 0) count)
+    takes_byte to lands h = rw (sees to lands, byte_here s to h, taken_to to (get_or s to 0) count)
 
     pub takes_none : (to : ℕ) → to ≡ at + passed_at m s (eqb count 0) at → length s ≤ to
         → next_of m s (state_at st r at count) r ≡ record { refusal = 0; byte = none; taken = 0; passed = to - at; state = state_at st r to count }
@@ -83,7 +82,7 @@ module _ (m : Reading) (s : List ℕ) (r : Reader) (st : State) where
 
     module _ (place : ℕ) (lands : place ≡ at + passed_at m s (eqb count 0) at) where
       pub place_inside : place ≤ length s
-      place_inside = omega (arith, lands, passed-fits m s (eqb count 0) at here.inside)
+      place_inside = omega (arith, lands, passed_fits m s (eqb count 0) at here.inside)
 
       -- where the peek sees no digit the run is over
       stops : sees_digit m (byte_at s place) ≡ false → (n : ℕ)
@@ -107,7 +106,7 @@ module _ (m : Reading) (s : List ℕ) (r : Reader) (st : State) where
     goes_on : to < length s → (n : ℕ)
         → run_at m s r st (suc n) at count ≡ digit_then (get_or s to 0) over (run_at m s r st n (to + 1) (count_behind m (get_or s to 0) count))
     unfolding digits_from
-    goes_on h n = rw (sees at count here place lands, digit, takes-byte place count on to again h)
+    goes_on h n = rw (sees at count here place lands, digit, takes_byte place count on to again h)
 
     pub takes : to < length s → Takes m s r st at count (get_or s to 0) (to + 1) (count_behind m (get_or s to 0) count) over
     takes h =
@@ -126,12 +125,12 @@ module _ (m : Reading) (s : List ℕ) (r : Reader) (st : State) where
     unfolding digits_from
     stops-behind out zero enough = absurd (omega (arith, enough, lands, digit_inside m s place digit))
     stops-behind out (suc n) enough =
-        let at-end = further place count on to (omega (arith, again)) (place_inside place count on to again) in
-        let stays : to ≡ to + passed_at m s (eqb count 0) to = omega (arith, out, passed-fits m s (eqb count 0) to at-end.inside) in
+        let at_end = further place count on to (omega (arith, again)) (place_inside place count on to again) in
+        let stays : to ≡ to + passed_at m s (eqb count 0) to = omega (arith, out, passed_fits m s (eqb count 0) to at_end.inside) in
         let none_seen : sees_digit m (byte_at s to) ≡ false = rw (no_byte s to out) in
         let nothing : place - at + (to - place) + (to - to) ≡ place - at + (to - place) = omega arith in
-        rw (sees at count here place lands, digit, takes_none place count on to again out, stops to count at-end to stays none_seen n, nothing)
+        rw (sees at count here place lands, digit, takes_none place count on to again out, stops to count at_end to stays none_seen n, nothing)
 
-    pub ends-behind : length s ≤ to → Ends m s r st at count to over
-    ends-behind out =
+    pub ends_behind : length s ≤ to → Ends m s r st at count to over
+    ends_behind out =
         record { all = stops-behind out; moves = omega (arith, lands, again); inside = place_inside place count on to again }

@@ -10,7 +10,6 @@ use lib.ListN.{take, drop, get_or}
 use Rattle.reader.specs.declared.state.Reader.{Reader}
 use Rattle.reader.specs.declared.state.State.{State}
 use Rattle.reader.specs.Reading.{Reading, reading_for, has_any_flag}
-use Rattle.reader.specs.Answer.{BlockOutcome}
 use Rattle.reader.specs.Block.{block_refusal, take_n_of, take_n_part}
 use Rattle.export.specs.State.{state_in, reader_on, by_reader}
 use Rattle.export.specs.Answer.{block_words}

@@ -1,5 +1,5 @@
 -- The words that are written where a grouped cell's digits go by numbers are those of the run: for `pawhetino_digit_run`. Assumes nothing.
-use mathlib.Core.Path.{◌≡◌, ◌∙◌, refl, sym}
+use mathlib.Core.Path.{◌≡◌, refl, sym}
 use mathlib.Core.Bool.{true, cond}
 use mathlib.Core.List.{List, [], ◌∷◌}
 use mathlib.Core.Option.{some}
@@ -16,7 +16,7 @@ use Rattle.export.specs.State.{state_words}
 use Rattle.export.specs.Answer.{value_words}
 use Rattle.export.specs.Calls.{digit_run_by}
 use Rattle.export.specs.Code.GroupedRun.{GroupedRun}
-use Rattle.export.proofs.FreshCells.{word_in, reader-in, fresh_in, reader-of, between_in}
+use Rattle.export.proofs.FreshCells.{word_in, reader_in, fresh_in, reader_of_lem, between_in}
 use Rattle.export.proofs.here.CountedReaders.{end_words_lem}
 
 module _ (n : ℕ) (w s : List ℕ) (low : n ≤ 2) (edition : get_or w 7 0 ≡ 0)
@@ -25,18 +25,20 @@ module _ (n : ℕ) (w s : List ℕ) (low : n ≤ 2) (edition : get_or w 7 0 ≡ 
   f = word_in n w low
 
   abbrev r : Reader
-  r = reader-in n w low
+  r = reader_in n w low
 
   module _ (at value count passed : ℕ) (positive : 0 < digit_separator f) (internal : flag f (32 + n) ≡ true)
       (decimal : mantissa_radix f ≡ 10) (run : GroupedRun (digit_separator f) 10 s at value count passed) where
     read : digit_run_by n w s ≡ record { refusal = 0; value = some value; taken = count; passed = passed; state = state_at (fresh_of f) r at count }
     unfolding digit_run_by syntax_on syntax_of
     read =
-        rw (reader-of n w low edition, fresh_in n w low cursor integer fraction exponent)
+        rw (reader_of_lem n w low edition, fresh_in n w low cursor integer fraction exponent)
         (sym (run (syntax_of f r) f r (between_in n w low 10 decimal positive internal)))
 
-    pub run-written : (old : List ℕ)
-        → (0 ≡ (digit_run_by n w s).refusal)
-        × (((get_or w 0 0 ∷ get_or w 1 0 ∷ at ∷ cond (eqb n 0) count 0 ∷ cond (eqb n 1) count 0 ∷ cond (eqb n 2) count 0 ∷ get_or w 6 0 ∷ get_or w 7 0 ∷ []) ≡ state_words w (digit_run_by n w s).state)
-        × ((1 ∷ value ∷ count ∷ passed ∷ []) ≡ value_words old (digit_run_by n w s)))
-    run-written old = rw read (refl, (end_words_lem n low w (fresh_of f) at count refl refl refl, refl))
+    pub run_written : (old : List ℕ)
+        → record {
+          number : 0 ≡ (digit_run_by n w s).refusal;
+          moved : (get_or w 0 0 ∷ get_or w 1 0 ∷ at ∷ cond (eqb n 0) count 0 ∷ cond (eqb n 1) count 0 ∷ cond (eqb n 2) count 0 ∷ get_or w 6 0 ∷ get_or w 7 0 ∷ []) ≡ state_words w (digit_run_by n w s).state;
+          written : (1 ∷ value ∷ count ∷ passed ∷ []) ≡ value_words old (digit_run_by n w s);
+        }
+    run_written old = rw read (record { number = refl; moved = end_words_lem n low w (fresh_of f) at count refl refl refl; written = refl })

@@ -1,27 +1,25 @@
 -- What the calls of one byte answer where a reader that counts sees a byte that is no separator, or the end, and the words that they
 -- write: for their quick ways. Assumes nothing.
 use mathlib.Core.Path.{◌≡◌, ◌∙◌, refl, sym, ap}
-use mathlib.Core.Bool.{Bool, true, false, cond, not, ◌&&◌}
+use mathlib.Core.Bool.{Bool, true, false, cond, ◌&&◌}
 use mathlib.Core.List.{List, [], ◌∷◌}
 use mathlib.Core.Option.{Option, some, none}
-use Prim.Native.Nat.{ℕ, zero, suc, ◌+◌, ◌/◌, ◌^◌, ◌<◌, ◌≤◌}
-use native.Mathlib.Omega.{arith}
-use lib.Dec.{eqb}
+use Prim.Native.Nat.{ℕ, zero, suc, ◌+◌, ◌/◌, ◌^◌, ◌<◌}
 use lib.ListN.{length, get_or}
-use borrow.Author.Tests.{le-leb, ne_eqb}
+use borrow.Author.Tests.{le-leb}
 use Rattle.word.specs.declared.format_flags.Format.{Format}
 use Rattle.word.specs.Word.{mantissa_radix}
 use Rattle.word.specs.Digit.{is_digit}
 use Rattle.reader.specs.declared.state.Reader.{Reader}
 use Rattle.reader.specs.declared.state.State.{State}
 use Rattle.reader.specs.Reading.{Reading, flags_of, syntax_of, syntax_on, reading_with, reading_for, has_any_flag, is_consecutive_alone}
-use Rattle.reader.specs.State.{count_sum, moved_to, counted_by, is_counted}
-use Rattle.reader.specs.Answer.{Outcome, SkipOutcome}
-use Rattle.reader.specs.Repeat.{until_none, repeated}
+use Rattle.reader.specs.State.{count_sum, moved_to, counted_by}
+use Rattle.reader.specs.Answer.{Outcome}
+use Rattle.reader.specs.Repeat.{until_none}
 use Rattle.reader.specs.Calls.{peek_of, next_of, taken_from, read_if_of}
 use Rattle.reader.specs.ZeroSkip.{is_zero, skip_refusal, zero_read_of, skip_zeros_of}
 use Rattle.export.specs.State.{state_in, state_words, reader_on}
-use Rattle.export.specs.Answer.{byte_words, zeros_words}
+use Rattle.export.specs.Answer.{byte_words}
 use Rattle.export.specs.Calls.{peeked_by, taken_by, read_by, skipped_by}
 use Rattle.export.specs.Code.Here.{own_flags, words_at}
 use Rattle.export.proofs.here.CountedReaders.{counted_reader, named_on, own_flags_lem, at_words}
@@ -50,19 +48,19 @@ module _ (n : ℕ) (w s : List ℕ) (seen : Option ℕ) (here : Sight n w s seen
   peek_here : peek_of (reading_for (state_in w) r) s (state_in w) r ≡ seen_at w seen
   peek_here = here.peeks r ((counted_reader n here.low).flags f)
 
-  pub peeked-here : peeked_by n w s ≡ seen_at w seen
+  pub peeked_here : peeked_by n w s ≡ seen_at w seen
   unfolding peeked_by
-  peeked-here = rw (by, peek_here)
+  peeked_here = rw (by, peek_here)
 
 -- at the end a take and a read answer what a peek does
 module _ (n : ℕ) (w s : List ℕ) (here : Sight n w s none) where
-  pub taken-end : taken_by n w s ≡ seen_at w none
+  pub taken_end : taken_by n w s ≡ seen_at w none
   unfolding taken_by next_of
-  taken-end = rw (by n w s none here, peek_here n w s none here)
+  taken_end = rw (by n w s none here, peek_here n w s none here)
 
-  pub read-end : (wanted : ℕ → Bool) → read_by n w s wanted ≡ record { outcome = seen_at w none; seen = none }
+  pub read_end : (wanted : ℕ → Bool) → read_by n w s wanted ≡ record { outcome = seen_at w none; seen = none }
   unfolding read_by read_if_of
-  read-end wanted = rw (by n w s none here, peek_here n w s none here)
+  read_end wanted = rw (by n w s none here, peek_here n w s none here)
 
 -- a byte
 module _ (n : ℕ) (w s : List ℕ) (b : ℕ) (here : Sight n w s (some b)) where
@@ -85,13 +83,13 @@ module _ (n : ℕ) (w s : List ℕ) (b : ℕ) (here : Sight n w s (some b)) wher
   taken_byte = rw (by n w s (some b) here, peek_here n w s (some b) here, state_past)
 
   -- the words that a take writes
-  pub next-words : (old : List ℕ) (up : Bool) → up ≡ (has_any_flag (own_flags (get_or w 0 0 / 2 ^ n)) && is_digit b (mantissa_radix (state_in w).format)) → get_or w 0 0 < 2 ^ 64
-      → (0 ≡ (taken_by n w s).refusal) × ((words_at w n up (get_or w 2 0 + 1) ≡ state_words w (taken_by n w s).state) × ((1 ∷ b ∷ 1 ∷ 0 ∷ []) ≡ byte_words old (taken_by n w s)))
-  next-words old up known small =
+  pub next_words : (old : List ℕ) (up : Bool) → up ≡ (has_any_flag (own_flags (get_or w 0 0 / 2 ^ n)) && is_digit b (mantissa_radix (state_in w).format)) → get_or w 0 0 < 2 ^ 64
+      → record { number : 0 ≡ (taken_by n w s).refusal; moved : words_at w n up (get_or w 2 0 + 1) ≡ state_words w (taken_by n w s).state; written : (1 ∷ b ∷ 1 ∷ 0 ∷ []) ≡ byte_words old (taken_by n w s) }
+  next_words old up known small =
       let flagged : has_any_flag (own_flags (get_or w 0 0 / 2 ^ n)) ≡ has_any_flag (flags_of (state_in w).format own) =
       ap has_any_flag (own_flags_lem (state_in w).format n here.low small ∙ sym ((counted_reader n here.low).flags (state_in w).format)) in
       let same : up ≡ counted = known ∙ rw flagged in
-      rw (taken_byte, same) (refl, (at_words n here.low w counted (get_or w 2 0 + 1), refl))
+      rw (taken_byte, same) (record { number = refl; moved = at_words n here.low w counted (get_or w 2 0 + 1); written = refl })
 
   -- a read of a byte that is wanted, and of one that is not
   pub read_taken : (wanted : ℕ → Bool) → wanted b ≡ true
@@ -99,9 +97,9 @@ module _ (n : ℕ) (w s : List ℕ) (b : ℕ) (here : Sight n w s (some b)) wher
   unfolding read_by read_if_of
   read_taken wanted holds = rw (by n w s (some b) here, peek_here n w s (some b) here, holds)
 
-  pub read-declined : (wanted : ℕ → Bool) → wanted b ≡ false → read_by n w s wanted ≡ record { outcome = seen_at w none; seen = some b }
+  pub read_declined_lem : (wanted : ℕ → Bool) → wanted b ≡ false → read_by n w s wanted ≡ record { outcome = seen_at w none; seen = some b }
   unfolding read_by read_if_of
-  read-declined wanted fails = rw (by n w s (some b) here, peek_here n w s (some b) here, fails)
+  read_declined_lem wanted fails = rw (by n w s (some b) here, peek_here n w s (some b) here, fails)
 
 -- a zero skip that finds no zero
 module _ (n : ℕ) (w s : List ℕ) (seen : Option ℕ) (here : Sight n w s seen) where
@@ -118,17 +116,17 @@ module _ (n : ℕ) (w s : List ℕ) (seen : Option ℕ) (here : Sight n w s seen
       ap is_consecutive_alone ((counted_reader n here.low).flags (state_in w).format) ∙ here.alone in
       rw (le-leb (get_or w 2 0) (length s) here.within, le-leb (count_sum (state_in w)) (get_or w 2 0) here.fit, (counted_reader n here.low).counts, alone) refl
 
-  pub skipped-none : zero_read_of reading s who (state_in w) ≡ seen_at w none
+  pub skipped_none : zero_read_of reading s who (state_in w) ≡ seen_at w none
       → skipped_by n w s ≡ record { refusal = 0; zeros = some 0; taken = 0; passed = 0; state = state_in w }
   unfolding skipped_by skip_zeros_of
-  skipped-none first = rw (by n w s seen here, skips, first, until_none_lem (length s) (zero_read_of reading s who) (seen_at w none) refl)
+  skipped_none first = rw (by n w s seen here, skips, first, until_none_lem (length s) (zero_read_of reading s who) (seen_at w none) refl)
 
 pub skipped_end : (n : ℕ) (w s : List ℕ) (here : Sight n w s none)
     → skipped_by n w s ≡ record { refusal = 0; zeros = some 0; taken = 0; passed = 0; state = state_in w }
 unfolding zero_read_of read_if_of
-skipped_end n w s here = skipped-none n w s none here (rw (peek_here n w s none here))
+skipped_end n w s here = skipped_none n w s none here (rw (peek_here n w s none here))
 
 pub skipped_other : (n : ℕ) (w s : List ℕ) (b : ℕ) (here : Sight n w s (some b)) → is_zero b ≡ false
     → skipped_by n w s ≡ record { refusal = 0; zeros = some 0; taken = 0; passed = 0; state = state_in w }
 unfolding zero_read_of read_if_of
-skipped_other n w s b here other = skipped-none n w s (some b) here (rw (peek_here n w s (some b) here, other))
+skipped_other n w s b here other = skipped_none n w s (some b) here (rw (peek_here n w s (some b) here, other))

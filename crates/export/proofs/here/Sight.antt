@@ -18,9 +18,9 @@ use Rattle.reader.specs.Place.{byte_at}
 use Rattle.reader.specs.Reading.{flags_at, flags_of, syntax_of, syntax_on, reading_with, reading_for, is_consecutive_alone, passed_at}
 use Rattle.reader.specs.State.{count_of, count_sum, moved_to}
 use Rattle.reader.specs.Calls.{refusal_with, peeked, peek_of}
-use Rattle.reader.proofs.passing.Places.{no_separator, byte-here, no_byte}
-use Rattle.reader.proofs.passing.Landings.{stays-on-other, stays-at-end}
-use Rattle.reader.proofs.state.Refusals.{peek-admitted}
+use Rattle.reader.proofs.passing.Places.{no_separator, byte_here, no_byte}
+use Rattle.reader.proofs.passing.Landings.{stays_on_other, stays_at_end}
+use Rattle.reader.proofs.state.Refusals.{peek_admitted}
 use Rattle.export.specs.declared.here.Here.{Here}
 use Rattle.export.specs.declared.here.Here.TheVariants.{Byte, End, Separator, Other}
 use Rattle.export.specs.State.{state_in, is_edition}
@@ -34,22 +34,22 @@ module _ (x : Syntax) (s : List ℕ) (st : State) (r : Reader) (alone : is_conse
 
   admitted : st.cursor ≤ length s → peek_of (reading_with x) s st r ≡ peeked (reading_with x) s st r
   unfolding reading_with
-  admitted within = peek-admitted (reading_with x) s st r (clear within)
+  admitted within = peek_admitted (reading_with x) s st r (clear within)
 
   looks : passed_at (reading_with x) s (eqb (count_of st r) 0) st.cursor ≡ 0
       → peeked (reading_with x) s st r ≡ record { refusal = 0; byte = byte_at s st.cursor; taken = 0; passed = 0; state = st }
   unfolding peeked moved_to
   looks none_passed = rw (none_passed, add-zero st.cursor) refl
 
-  pub sees-byte : st.cursor < length s → (get_or s st.cursor 0 ≡ x.separator → ⊥)
+  pub sees_byte : st.cursor < length s → (get_or s st.cursor 0 ≡ x.separator → ⊥)
       → peek_of (reading_with x) s st r ≡ record { refusal = 0; byte = some (get_or s st.cursor 0); taken = 0; passed = 0; state = st }
-  sees-byte inside differ =
-      let stays = stays-on-other x s (eqb (count_of st r) 0) st.cursor inside (no_separator x.separator _ differ) in
-      admitted (omega (arith, inside)) ∙ looks (omega (arith, stays)) ∙ rw (byte-here s st.cursor inside)
+  sees_byte inside differ =
+      let stays = stays_on_other x s (eqb (count_of st r) 0) st.cursor inside (no_separator x.separator _ differ) in
+      admitted (omega (arith, inside)) ∙ looks (omega (arith, stays)) ∙ rw (byte_here s st.cursor inside)
 
-  pub sees-end : length s ≡ st.cursor → peek_of (reading_with x) s st r ≡ record { refusal = 0; byte = none; taken = 0; passed = 0; state = st }
-  sees-end out =
-      let stays = stays-at-end x s (eqb (count_of st r) 0) st.cursor (omega (arith, out)) in
+  pub sees_end : length s ≡ st.cursor → peek_of (reading_with x) s st r ≡ record { refusal = 0; byte = none; taken = 0; passed = 0; state = st }
+  sees_end out =
+      let stays = stays_at_end x s (eqb (count_of st r) 0) st.cursor (omega (arith, out)) in
       admitted (omega (arith, out)) ∙ looks (omega (arith, stays)) ∙ rw (no_byte s st.cursor (omega (arith, out)))
 
 -- What a reader that counts sees where nothing is passed: a byte, or the end.
@@ -150,10 +150,10 @@ module _ (n : ℕ) (w s : List ℕ) (here : Here) (found : here ≡ here_of n w 
     unfolding syntax_on syntax_of
     peeks_byte r flags =
         rw tests.4 at
-        (sees-byte (syntax_of f r) s (state_in w) r (ap is_consecutive_alone flags ∙ not_alone tests.0) (fits tests.0) byte_inside (eqb-false _ _ tests.3))
+        (sees_byte (syntax_of f r) s (state_in w) r (ap is_consecutive_alone flags ∙ not_alone tests.0) (fits tests.0) byte_inside (eqb-false _ _ tests.3))
 
-    pub byte-sight : Sight n w s (some b)
-    byte-sight =
+    pub byte_sight : Sight n w s (some b)
+    byte_sight =
         record {
           low = leb-true n 2 (served tests.0).0;
           edition = (served tests.0).1;
@@ -175,10 +175,10 @@ module _ (n : ℕ) (w s : List ℕ) (here : Here) (found : here ≡ here_of n w 
         → peek_of (reading_for (state_in w) r) s (state_in w) r ≡ record { refusal = 0; byte = none; taken = 0; passed = 0; state = state_in w }
     unfolding syntax_on syntax_of
     peeks_end r flags =
-        sees-end (syntax_of f r) s (state_in w) r (ap is_consecutive_alone flags ∙ not_alone end_told.0) (fits end_told.0) at_end
+        sees_end (syntax_of f r) s (state_in w) r (ap is_consecutive_alone flags ∙ not_alone end_told.0) (fits end_told.0) at_end
 
-    pub end-sight : Sight n w s none
-    end-sight =
+    pub end_sight : Sight n w s none
+    end_sight =
         record {
           low = leb-true n 2 (served end_told.0).0;
           edition = (served end_told.0).1;
@@ -193,8 +193,8 @@ module _ (n : ℕ) (w s : List ℕ) (here : Here) (found : here ≡ here_of n w 
     unfolding here_of
     on_separator_told = separator_tests held past ended separates byte (sym found ∙ is)
 
-    pub on-separator : OnSeparator n w s
-    on-separator =
+    pub on_separator : OnSeparator n w s
+    on_separator =
         let told = on_separator_told in
         let within = ltb-false (length s) (get_or w 2 0) told.1 in
         let more = eqb-false (length s) (get_or w 2 0) told.2 in

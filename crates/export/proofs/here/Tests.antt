@@ -1,13 +1,12 @@
 -- What is under the cursor, by the tests that the code makes, in their order: for `found_here`. Assumes nothing.
 use mathlib.Core.Path.{◌≡◌, ◌∙◌, refl, sym, ap}
-use mathlib.Core.Bool.{Bool, true, false, cond, not, ◌&&◌, ◌||◌}
+use mathlib.Core.Bool.{Bool, true, false, not, ◌&&◌, ◌||◌}
 use mathlib.Core.List.{List}
 use Prim.Native.Nat.{ℕ, ◌+◌, ◌/◌, ◌^◌, ◌<◌, ◌≤◌}
-use lib.Dec.{eqb, leb, ltb}
+use lib.Dec.{leb, ltb}
 use lib.ListN.{length, get_or}
 use borrow.Author.Tests.{le-leb, lt-leb, ltb-true, ltb-false, lt-ltb, le-ltb, eq-eqb, ne_eqb, leb-true}
 use Rattle.word.specs.Word.{digit_separator}
-use Rattle.reader.specs.declared.rule.Flags.{Flags}
 use Rattle.reader.specs.Reading.{flags_at, is_consecutive_alone}
 use Rattle.export.specs.declared.here.Here.TheVariants.{Byte, End, Separator, Other}
 use Rattle.export.specs.State.{state_in, is_edition}
@@ -34,9 +33,9 @@ module _ (n : ℕ) (w s : List ℕ) where
   served_by : is_served n w ≡ not unserved
   served_by = rw (not_above n 2) (stops (ltb 2 n) (is_edition (get_or w 7 0)))
 
-  pub here-unserved : unserved ≡ true → Other ≡ here_of n w s
+  pub here_unserved : unserved ≡ true → Other ≡ here_of n w s
   unfolding here_of
-  here-unserved t = rw (served_by, t)
+  here_unserved t = rw (served_by, t)
 
   -- the reader's number, where it is served
   pub low : unserved ≡ false → n ≤ 2
@@ -54,25 +53,25 @@ module _ (n : ℕ) (w s : List ℕ) where
         sym (ap is_consecutive_alone (own_flags_lem (state_in w).format n (low served) small)) ∙ sym Known-alone in
         rw (own, sym known-fit) (stops alone fit)
 
-    pub here-unclear : (alone || not fit) ≡ true → Other ≡ here_of n w s
+    pub here_unclear : (alone || not fit) ≡ true → Other ≡ here_of n w s
     unfolding here_of
-    here-unclear t = rw (served_by, served, clear_by, t)
+    here_unclear t = rw (served_by, served, clear_by, t)
 
     module _ (clear : (alone || not fit) ≡ false) where
       by_place : here_of n w s ≡ under_cursor w s
       unfolding here_of
       by_place = rw (served_by, served, clear_by, clear)
 
-      pub here-outside : length s < get_or w 2 0 → Other ≡ here_of n w s
-      here-outside out = rw (by_place, lt-ltb (length s) (get_or w 2 0) out)
+      pub here_outside : length s < get_or w 2 0 → Other ≡ here_of n w s
+      here_outside out = rw (by_place, lt-ltb (length s) (get_or w 2 0) out)
 
       module _ (within : get_or w 2 0 ≤ length s) where
         pub here_end : length s ≡ get_or w 2 0 → End ≡ here_of n w s
         here_end e = rw (by_place, le-ltb (length s) (get_or w 2 0) within, eq-eqb (length s) (get_or w 2 0) e)
 
         module _ (more : length s ≡ get_or w 2 0 → ⊥) where
-          pub here-separator : get_or s (get_or w 2 0) 0 ≡ digit_separator (state_in w).format → Separator ≡ here_of n w s
-          here-separator e = rw (by_place, le-ltb (length s) (get_or w 2 0) within, ne_eqb (length s) (get_or w 2 0) more, eq-eqb _ _ e)
+          pub here_separator : get_or s (get_or w 2 0) 0 ≡ digit_separator (state_in w).format → Separator ≡ here_of n w s
+          here_separator e = rw (by_place, le-ltb (length s) (get_or w 2 0) within, ne_eqb (length s) (get_or w 2 0) more, eq-eqb _ _ e)
 
-          pub here-byte : (get_or s (get_or w 2 0) 0 ≡ digit_separator (state_in w).format → ⊥) → Byte (get_or s (get_or w 2 0) 0) ≡ here_of n w s
-          here-byte differ = rw (by_place, le-ltb (length s) (get_or w 2 0) within, ne_eqb (length s) (get_or w 2 0) more, ne_eqb _ _ differ)
+          pub here_byte : (get_or s (get_or w 2 0) 0 ≡ digit_separator (state_in w).format → ⊥) → Byte (get_or s (get_or w 2 0) 0) ≡ here_of n w s
+          here_byte differ = rw (by_place, le-ltb (length s) (get_or w 2 0) within, ne_eqb (length s) (get_or w 2 0) more, ne_eqb _ _ differ)

@@ -19,7 +19,7 @@ use Rattle.export.specs.Answer.{byte_words}
 use Rattle.export.specs.Calls.{taken_all_by}
 use Rattle.export.specs.Code.FreshWords.{FreshWords, end_words}
 use Rattle.export.specs.Code.GroupedCell.{Between, GroupedCell, SpacedCell}
-use Rattle.export.proofs.FreshCells.{word_in, reader-in, fresh_in, reader-of, between_in, runs-in}
+use Rattle.export.proofs.FreshCells.{word_in, reader_in, fresh_in, reader_of_lem, between_in, runs_in}
 use Rattle.export.proofs.here.CountedReaders.{end_words_lem}
 
 module _ (n : ℕ) (w s : List ℕ) (fresh : FreshWords n w) where
@@ -27,7 +27,7 @@ module _ (n : ℕ) (w s : List ℕ) (fresh : FreshWords n w) where
   f = word_in n w fresh.low
 
   abbrev r : Reader
-  r = reader-in n w fresh.low
+  r = reader_in n w fresh.low
 
   abbrev x : Syntax
   x = syntax_of f r
@@ -41,7 +41,7 @@ module _ (n : ℕ) (w s : List ℕ) (fresh : FreshWords n w) where
       taken_all : taken_all_by n w s ≡ sums_outcome (fresh_of f) r (record { at = length s; count = count; passed = passed })
       unfolding taken_all_by syntax_on
       taken_all =
-          rw (reader-of n w fresh.low fresh.edition, fresh_in n w fresh.low fresh.cursor fresh.integer fresh.fraction fresh.exponent) (sym told)
+          rw (reader_of_lem n w fresh.low fresh.edition, fresh_in n w fresh.low fresh.cursor fresh.integer fresh.fraction fresh.exponent) (sym told)
 
       written : (old : List ℕ)
           → (0 ≡ (taken_all_by n w s).refusal)
@@ -51,14 +51,14 @@ module _ (n : ℕ) (w s : List ℕ) (fresh : FreshWords n w) where
           let whole : length s - 0 - passed ≡ length s - passed = omega arith in
           rw taken_all (refl, (end_words_lem n fresh.low w (fresh_of f) (length s) count refl refl refl, rw whole refl))
 
-    pub grouped-written : GroupedCell (digit_separator f) (mantissa_radix f) s count passed → (old : List ℕ)
+    pub grouped_written : GroupedCell (digit_separator f) (mantissa_radix f) s count passed → (old : List ℕ)
         → (0 ≡ (taken_all_by n w s).refusal)
         × ((end_words n (length s) count w ≡ state_words w (taken_all_by n w s).state)
         × ((0 ∷ get_or old 1 0 ∷ (length s - passed) ∷ passed ∷ []) ≡ byte_words old (taken_all_by n w s)))
-    grouped-written cell = written (cell x f r own)
+    grouped_written cell = written (cell x f r own)
 
-    pub spaced-written : SpacedCell (digit_separator f) (mantissa_radix f) s count passed → flag f (41 + n) ≡ true → (old : List ℕ)
+    pub spaced_written : SpacedCell (digit_separator f) (mantissa_radix f) s count passed → flag f (41 + n) ≡ true → (old : List ℕ)
         → (0 ≡ (taken_all_by n w s).refusal)
         × ((end_words n (length s) count w ≡ state_words w (taken_all_by n w s).state)
         × ((0 ∷ get_or old 1 0 ∷ (length s - passed) ∷ passed ∷ []) ≡ byte_words old (taken_all_by n w s)))
-    spaced-written cell together = written (cell x f r own (runs-in n w fresh.low ∙ together))
+    spaced_written cell together = written (cell x f r own (runs_in n w fresh.low ∙ together))

@@ -1,30 +1,29 @@
 -- At a separator right before a digit a reader that has counted and may pass between digits passes it alone, and sees the digit: the words
 -- that are written there are those of the peek and of the take. Assumes nothing.
-use mathlib.Core.Path.{◌≡◌, ◌∙◌, refl, sym, ap}
+use mathlib.Core.Path.{◌≡◌, ◌∙◌, refl, ap}
 use mathlib.Core.Bool.{Bool, true, false, cond, not, ◌&&◌, ◌||◌}
-use mathlib.Core.List.{List, [], ◌∷◌}
+use mathlib.Core.List.{List}
 use mathlib.Core.Option.{some}
-use Prim.Native.Nat.{ℕ, ◌+◌, ◌<◌, ◌≤◌}
+use Prim.Native.Nat.{ℕ, ◌+◌, ◌<◌}
 use native.Mathlib.Omega.{arith}
 use lib.Dec.{eqb, leb}
 use lib.ListN.{length, get_or}
-use borrow.Author.Tests.{le-leb, leb-false, eqb-false, ne_eqb, not-false}
+use borrow.Author.Tests.{le-leb, leb-false, eqb-false, not-false}
 use Rattle.word.specs.declared.format_flags.Format.{Format}
 use Rattle.word.specs.Word.{flag, digit_separator, mantissa_radix}
 use Rattle.word.specs.Digit.{is_digit}
 use Rattle.reader.specs.declared.state.Reader.{Reader}
-use Rattle.reader.specs.declared.state.State.{State}
-use Rattle.reader.specs.Reading.{flags_at, flags_of, syntax_of, syntax_on, reading_with, reading_for, has_any_flag, is_consecutive_alone, passed_at}
+use Rattle.reader.specs.Reading.{flags_at, flags_of, syntax_of, syntax_on, reading_with, has_any_flag, is_consecutive_alone, passed_at}
 use Rattle.reader.specs.State.{count_of, count_sum, moved_to, counted_by}
 use Rattle.reader.specs.Calls.{refusal_with, peeked, peek_of, next_of}
-use Rattle.reader.proofs.passing.Places.{byte-here}
-use Rattle.reader.proofs.state.Refusals.{peek-admitted}
+use Rattle.reader.proofs.passing.Places.{byte_here}
+use Rattle.reader.proofs.state.Refusals.{peek_admitted}
 use Rattle.export.specs.State.{state_in, state_words, reader_on}
 use Rattle.export.specs.Answer.{byte_words}
 use Rattle.export.specs.Calls.{peeked_by, taken_by}
 use Rattle.export.specs.Code.Over.{behind, is_over, over_state, over_answer}
 use Rattle.export.proofs.Booleans.{left_fails, right_fails}
-use Rattle.export.proofs.DigitBehind.{lands-between}
+use Rattle.export.proofs.DigitBehind.{lands_between}
 use Rattle.export.proofs.here.CountedReaders.{counted_reader, named_on, at_words, own_count_word}
 use Rattle.export.proofs.here.Sight.{OnSeparator}
 
@@ -77,17 +76,17 @@ module _ (n : ℕ) (w s : List ℕ) (over : is_over n w s ≡ true) where
     passes_one : passed_at (reading_with (syntax_of f r)) s (eqb (count_of (state_in w) r) 0) (get_or w 2 0) ≡ 1
     unfolding syntax_of
     passes_one =
-        let lands = lands-between (syntax_of f r) s (get_or w 2 0) here.inside positive here.equal more (eqb-false _ _ tests.3) tests.4 internal in
+        let lands = lands_between (syntax_of f r) s (get_or w 2 0) here.inside positive here.equal more (eqb-false _ _ tests.3) tests.4 internal in
         rw counted (omega (arith, lands))
 
     admitted : peek_of (reading_with (syntax_of f r)) s (state_in w) r ≡ peeked (reading_with (syntax_of f r)) s (state_in w) r
     unfolding reading_with syntax_of
-    admitted = peek-admitted (reading_with (syntax_of f r)) s (state_in w) r clear
+    admitted = peek_admitted (reading_with (syntax_of f r)) s (state_in w) r clear
 
     sees : peek_of (reading_with (syntax_of f r)) s (state_in w) r
         ≡ record { refusal = 0; byte = some (behind w s); taken = 0; passed = 1; state = moved_to (state_in w) (get_or w 2 0 + 1) }
     unfolding peeked
-    sees = admitted ∙ rw (passes_one, byte-here s (get_or w 2 0 + 1) more)
+    sees = admitted ∙ rw (passes_one, byte_here s (get_or w 2 0 + 1) more)
 
     by : reader_on n (get_or w 7 0) ≡ some r
     by = named_on n (get_or w 7 0) here.low here.edition
@@ -104,10 +103,10 @@ module _ (n : ℕ) (w s : List ℕ) (over : is_over n w s ≡ true) where
     unfolding taken_by next_of syntax_on syntax_of reading_with moved_to
     taken_over = rw (by, sees, counts)
 
-    pub peek-over-words : (old : List ℕ)
-        → (0 ≡ (peeked_by n w s).refusal) × ((over_state n w false ≡ state_words w (peeked_by n w s).state) × (over_answer w s false ≡ byte_words old (peeked_by n w s)))
-    peek-over-words old = rw peeked_over (refl, (at_words n here.low w false (get_or w 2 0 + 1), refl))
+    pub peek_over_words : (old : List ℕ)
+        → record { number : 0 ≡ (peeked_by n w s).refusal; moved : over_state n w false ≡ state_words w (peeked_by n w s).state; written : over_answer w s false ≡ byte_words old (peeked_by n w s) }
+    peek_over_words old = rw peeked_over (record { number = refl; moved = at_words n here.low w false (get_or w 2 0 + 1); written = refl })
 
-    pub next-over-words : (old : List ℕ)
-        → (0 ≡ (taken_by n w s).refusal) × ((over_state n w true ≡ state_words w (taken_by n w s).state) × (over_answer w s true ≡ byte_words old (taken_by n w s)))
-    next-over-words old = rw taken_over (refl, (at_words n here.low w true (get_or w 2 0 + 1 + 1), refl))
+    pub next_over_words : (old : List ℕ)
+        → record { number : 0 ≡ (taken_by n w s).refusal; moved : over_state n w true ≡ state_words w (taken_by n w s).state; written : over_answer w s true ≡ byte_words old (taken_by n w s) }
+    next_over_words old = rw taken_over (record { number = refl; moved = at_words n here.low w true (get_or w 2 0 + 1 + 1); written = refl })

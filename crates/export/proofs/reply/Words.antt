@@ -14,25 +14,29 @@ use Rattle.export.specs.Code.Reply.{byte_reply, read_reply, zeros_reply, block_r
 
 pub written_as :
     (w : List ℕ) (reply due : Reply) → reply ≡ due
-    → {number : ℕ} {state answer : List ℕ}
-    → (number ≡ reply.number) × ((state ≡ state_words w reply.state) × (answer ≡ reply_words reply))
-    → (number ≡ due.number) × ((state ≡ state_words w due.state) × (answer ≡ reply_words due))
+    → {told : ℕ} {state answer : List ℕ}
+    → record { number : told ≡ reply.number; moved : state ≡ state_words w reply.state; written : answer ≡ reply_words reply }
+    → record { number : told ≡ due.number; moved : state ≡ state_words w due.state; written : answer ≡ reply_words due }
 written_as w reply due same put =
-    (put.0 ∙ ap (λ (r : Reply). r.number) same, (put.1.0 ∙ ap (λ (r : Reply). state_words w r.state) same, put.1.1 ∙ ap reply_words same))
+    record {
+      number = put.number ∙ ap (λ (r : Reply). r.number) same;
+      moved = put.moved ∙ ap (λ (r : Reply). state_words w r.state) same;
+      written = put.written ∙ ap reply_words same;
+    }
 
 -- a refused call's reply is the same whatever the call answers
 module _ (number : ℕ) (st : State) (old : ℕ) where
-  pub byte-refused : refused_reply number st old ≡ byte_reply old (refused number st)
+  pub byte_refused : refused_reply number st old ≡ byte_reply old (refused number st)
   unfolding byte_reply
-  byte-refused = refl
+  byte_refused = refl
 
-  pub read-refused : refused_reply number st old ≡ read_reply old (refused_read number st)
+  pub read_refused : refused_reply number st old ≡ read_reply old (refused_read number st)
   unfolding read_reply
-  read-refused = refl
+  read_refused = refl
 
-  pub zeros-refused : refused_reply number st old ≡ zeros_reply old (refused_skip number st)
+  pub zeros_refused : refused_reply number st old ≡ zeros_reply old (refused_skip number st)
   unfolding zeros_reply
-  zeros-refused = refl
+  zeros_refused = refl
 
   pub block_refused : (cursor : ℕ) → refused_reply number st old ≡ block_reply old cursor (refused_block number st)
   unfolding block_reply

@@ -24,22 +24,22 @@ module _ (lo hi : ℕ) (o : Opened) (found : open_outcome_of o ≡ open_of lo hi
     outcome : record { refusal = 0; state = some st } ≡ open_of lo hi
     outcome = sym (ap open_outcome_of is) ∙ found
 
-    pub fresh-number : (open_of lo hi).refusal ≡ 0
-    fresh-number = sym (ap (λ (x : OpenOutcome). x.refusal) outcome)
+    pub fresh_number_lem : (open_of lo hi).refusal ≡ 0
+    fresh_number_lem = sym (ap (λ (x : OpenOutcome). x.refusal) outcome)
 
-    pub fresh-state : st ≡ fresh_of (word_of lo hi)
+    pub fresh_state : st ≡ fresh_of (word_of lo hi)
     unfolding open_of
-    fresh-state =
-        let zero_check : full_check (word_of lo hi) ≡ 0 = fresh-number in
+    fresh_state =
+        let zero_check : full_check (word_of lo hi) ≡ 0 = fresh_number_lem in
         given (eqb (full_check (word_of lo hi)) 0) st (fresh_of (word_of lo hi)) (rw zero_check) (ap (λ (x : OpenOutcome). x.state) outcome)
 
   module _ (number : ℕ) (is : o ≡ Refused number) where
     outcome_refused : record { refusal = number; state = none } ≡ open_of lo hi
     outcome_refused = sym (ap open_outcome_of is) ∙ found
 
-    pub refused-number : number ≡ (open_of lo hi).refusal
-    refused-number = ap (λ (x : OpenOutcome). x.refusal) outcome_refused
+    pub refused_number : number ≡ (open_of lo hi).refusal
+    refused_number = ap (λ (x : OpenOutcome). x.refusal) outcome_refused
 
-    pub refused-not-zero : eqb (open_of lo hi).refusal 0 ≡ false
+    pub refused_not_zero : eqb (open_of lo hi).refusal 0 ≡ false
     unfolding open_of
-    refused-not-zero = not_given (eqb (full_check (word_of lo hi)) 0) (fresh_of (word_of lo hi)) (ap (λ (x : OpenOutcome). x.state) outcome_refused)
+    refused_not_zero = not_given (eqb (full_check (word_of lo hi)) 0) (fresh_of (word_of lo hi)) (ap (λ (x : OpenOutcome). x.state) outcome_refused)

@@ -1,6 +1,5 @@
 -- What is under the cursor of a counted reader that is not refused, where nothing is passed (src/here.rt). Assumes nothing.
 use Rattle.std.specs.Prelude.{ℕ, ◌+◌, Bool, cond, not, ◌&&◌, List, [], ◌∷◌, eqb, leb, ltb, length, get_or}
-use Rattle.word.specs.declared.format_flags.Format.{Format}
 use Rattle.word.specs.Bits.{bit}
 use Rattle.word.specs.Word.{digit_separator}
 use Rattle.reader.specs.declared.rule.Flags.{Flags}

@@ -1,20 +1,19 @@
 -- Demand 3 over any reading that settles: the byte tally of every list of calls. Assumes nothing.
-use Rattle.std.proofs.Common.{◌≡◌, ℕ, ◌+◌, ◌≤◌, List, [], ◌∷◌, ◌++◌, length, sym, refl, ap, ◌∙◌, subst, add-zero, arith}
+use Rattle.std.proofs.Common.{◌≡◌, ℕ, ◌+◌, List, [], ◌∷◌, ◌++◌, sym, refl, ap, ◌∙◌, subst, add-zero, arith}
 use Rattle.reader.specs.declared.state.Reader.{Reader}
 use Rattle.reader.specs.declared.state.Reader.TheVariants.{Integer, Fraction, Exponent, Special}
 use Rattle.reader.specs.declared.state.State.{State}
 use Rattle.reader.specs.Reading.{Reading}
 use Rattle.reader.specs.State.{Sheet, sheet_of, fresh_on, count_of, moved_to}
-use Rattle.reader.specs.Answer.{Outcome}
 use Rattle.reader.specs.Calls.{peek_of, next_of, read_if_of}
-use Rattle.reader.specs.History.{Call, peek_by, take_by, read_if_by, zero_skip_by, block_by, Answered, take_answered, read_answered, answer_by, answer_to, number_in, taken_in, passed_in, returned, shown_in, seen_in, Trace, trace_from, with_answer, trace_of, total_of, steps_of}
+use Rattle.reader.specs.History.{Call, peek_by, take_by, read_if_by, zero_skip_by, block_by, Answered, take_answered, read_answered, answer_by, answer_to, taken_in, passed_in, returned, shown_in, seen_in, Trace, trace_from, with_answer, trace_of, total_of, steps_of}
 use Rattle.reader.specs.ByteTally.{CountsAgree, SkipsTold, WordKept, reader_of, Preceded, peek_before, PeekChangesNothing, trace_fresh, ByteTally}
 use Rattle.reader.proofs.ByteTally.Settling.{Settles}
 use Rattle.reader.proofs.ByteTally.Peek.{peeks}
-use Rattle.reader.proofs.ByteTally.InsertedPeek.{without_passed, take-after-peek, read-sees-same, take-passes, read-passes, zeros-same, state-same, passed-adds, skip-clear}
+use Rattle.reader.proofs.ByteTally.InsertedPeek.{without_passed, take_after_peek, read_sees_same, take_passes, read_passes, zeros_same, state_same, passed_adds, skip_clear}
 use Rattle.reader.proofs.ByteTally.Invariant.{Tallied}
-use Rattle.reader.proofs.ByteTally.Calls.{Answering, answering}
-use Rattle.reader.proofs.ByteTally.ZeroSkips.{count-agrees, answer-told, agreed}
+use Rattle.reader.proofs.ByteTally.Calls.{answering}
+use Rattle.reader.proofs.ByteTally.ZeroSkips.{count_agrees, answer_told, agreed}
 
 -- LISTS OF CALLS
 
@@ -45,8 +44,8 @@ module _ (m : Sheet → Reader → Reading) (s : List ℕ) (sheet : Sheet) where
       nothing_counted Special = refl
 
   -- the state's sheet is that of the list
-  pub own-word : (w : Trace) → Kept w → (call : Call) → answer_to m s w.state call ≡ answer_by (m sheet) s w.state call
-  own-word w so_far call = ap (λ (g : Sheet). answer_by (m g) s w.state call) so_far.tallied.word
+  pub own_word : (w : Trace) → Kept w → (call : Call) → answer_to m s w.state call ≡ answer_by (m sheet) s w.state call
+  own_word w so_far call = ap (λ (g : Sheet). answer_by (m g) s w.state call) so_far.tallied.word
 
   pub kept_on : (w : Trace) → Kept w → (call : Call) → Kept (with_answer w (answer_to m s w.state call))
   kept_on w so_far call =
@@ -56,18 +55,18 @@ module _ (m : Sheet → Reader → Reading) (s : List ℕ) (sheet : Sheet) where
       record {
         tallied = answer.tallied;
         cursor = omega (arith, answer.cursor, so_far.cursor);
-        agree = (so_far.agree, λ r. count-agrees (m sheet) s w.state w.history r (agreed (m sheet) w.history so_far.agree r) call);
-        skips = (so_far.skips, answer-told (m sheet) s w.state call);
+        agree = (so_far.agree, λ r. count_agrees (m sheet) s w.state w.history r (agreed (m sheet) w.history so_far.agree r) call);
+        skips = (so_far.skips, answer_told (m sheet) s w.state call);
         word = (so_far.word, answer.tallied.word);
       } in
-      subst (λ (b : Answered). Kept (with_answer w b)) (sym (own-word w so_far call)) kept
+      subst (λ (b : Answered). Kept (with_answer w b)) (sym (own_word w so_far call)) kept
 
-  pub kept-all : (calls : List Call) (w : Trace) → Kept w → Kept (trace_of m s w calls)
-  kept-all [] w so_far = so_far
-  kept-all (call ∷ rest) w so_far = kept-all rest (with_answer w (answer_to m s w.state call)) (kept_on w so_far call)
+  pub kept_all : (calls : List Call) (w : Trace) → Kept w → Kept (trace_of m s w calls)
+  kept_all [] w so_far = so_far
+  kept_all (call ∷ rest) w so_far = kept_all rest (with_answer w (answer_to m s w.state call)) (kept_on w so_far call)
 
   pub kept : (calls : List Call) → Kept (trace_fresh m s sheet calls)
-  kept calls = kept-all calls (trace_from (fresh_on sheet)) kept_fresh
+  kept calls = kept_all calls (trace_from (fresh_on sheet)) kept_fresh
 
 -- THE INSERTED PEEK
 
@@ -97,29 +96,29 @@ module _ (m : Sheet → Reader → Reading) (s : List ℕ) (st : State) (law : (
         passed = ap (λ (b : Answered). passed_in (peek_before m s st call) + passed_in b) same ∙ passed;
       }
 
-  pub peek-changes-nothing : (call : Call) → Preceded m s st call → PeekChangesNothing m s st call
-  peek-changes-nothing (peek_by r) never = absurd never
-  peek-changes-nothing (take_by r) allowed =
+  pub peek_changes_nothing : (call : Call) → Preceded m s st call → PeekChangesNothing m s st call
+  peek_changes_nothing (peek_by r) never = absurd never
+  peek_changes_nothing (take_by r) allowed =
       let by = m (sheet_of st) r in
-      changes_nothing (take_by r) (take_answered r (without_passed (next_of by s st r))) (ap (take_answered r) (take-after-peek by (law r) s st r)) refl refl refl
-      (rw (take-passes by (law r) s st r) (add-zero (peek_of by s st r).passed))
-  peek-changes-nothing (read_if_by r wanted) allowed =
+      changes_nothing (take_by r) (take_answered r (without_passed (next_of by s st r))) (ap (take_answered r) (take_after_peek by (law r) s st r)) refl refl refl
+      (rw (take_passes by (law r) s st r) (add-zero (peek_of by s st r).passed))
+  peek_changes_nothing (read_if_by r wanted) allowed =
       let by = m (sheet_of st) r in
       changes_nothing (read_if_by r wanted) (read_answered r (record { outcome = without_passed (read_if_of by s st r wanted); seen = (peek_of by s st r).byte }))
-      (ap (read_answered r) (read-sees-same by (law r) s st r wanted)) refl refl refl
-      (rw (read-passes by (law r) s st r wanted) (add-zero (peek_of by s st r).passed))
-  peek-changes-nothing (zero_skip_by r) clear =
+      (ap (read_answered r) (read_sees_same by (law r) s st r wanted)) refl refl refl
+      (rw (read_passes by (law r) s st r wanted) (add-zero (peek_of by s st r).passed))
+  peek_changes_nothing (zero_skip_by r) clear =
       let by = m (sheet_of st) r in
-      let open-to = skip-clear by (law r) s st r clear in
+      let open-to = skip_clear by (law r) s st r clear in
       changes_nothing (zero_skip_by r) _ refl
-      (zeros-same by (law r) s st r open-to) refl (state-same by (law r) s st r open-to) (passed-adds by (law r) s st r open-to)
-  peek-changes-nothing (block_by r n) never = absurd never
+      (zeros_same by (law r) s st r open-to) refl (state_same by (law r) s st r open-to) (passed_adds by (law r) s st r open-to)
+  peek_changes_nothing (block_by r n) never = absurd never
 
 -- a list of calls goes on from where its first part has come to, and from there by the state alone
 module _ (m : Sheet → Reader → Reading) (s : List ℕ) where
-  pub run-append : (a b : List Call) (w : Trace) → trace_of m s w (a ++ b) ≡ trace_of m s (trace_of m s w a) b
-  run-append [] b w = refl
-  run-append (call ∷ a) b w = run-append a b (with_answer w (answer_to m s w.state call))
+  pub run_append : (a b : List Call) (w : Trace) → trace_of m s w (a ++ b) ≡ trace_of m s (trace_of m s w a) b
+  run_append [] b w = refl
+  run_append (call ∷ a) b w = run_append a b (with_answer w (answer_to m s w.state call))
 
   run_state : (calls : List Call) (v w : Trace) → v.state ≡ w.state → (trace_of m s v calls).state ≡ (trace_of m s w calls).state
   run_state [] v w same = same
@@ -132,17 +131,17 @@ module _ (m : Sheet → Reader → Reading) (s : List ℕ) (sheet : Sheet) (law 
   peek_in_list : (before : List Call) (call : Call) → Preceded m s (trace_fresh m s sheet before).state call
       → PeekChangesNothing m s (trace_fresh m s sheet before).state call
   peek_in_list before call =
-      peek-changes-nothing m s (trace_fresh m s sheet before).state
+      peek_changes_nothing m s (trace_fresh m s sheet before).state
       (λ r. subst (λ (g : Sheet). Settles (m g r)) (sym (kept m s sheet before).tallied.word) (law r)) call
 
   same_end : (before : List Call) (call : Call) (after : List Call) → Preceded m s (trace_fresh m s sheet before).state call
       → (trace_fresh m s sheet (before ++ (peek_by (reader_of call) ∷ call ∷ after))).state ≡ (trace_fresh m s sheet (before ++ (call ∷ after))).state
   same_end before call after allowed =
-      rw (run-append m s before (peek_by (reader_of call) ∷ call ∷ after) (trace_from (fresh_on sheet)), run-append m s before (call ∷ after) (trace_from (fresh_on sheet)))
+      rw (run_append m s before (peek_by (reader_of call) ∷ call ∷ after) (trace_from (fresh_on sheet)), run_append m s before (call ∷ after) (trace_from (fresh_on sheet)))
       (run_state m s after _ _ (peek_in_list before call allowed).state)
 
-  pub byte-tally : (calls : List Call) → ByteTally m s sheet calls
-  byte-tally calls =
+  pub byte_tally : (calls : List Call) → ByteTally m s sheet calls
+  byte_tally calls =
       let reached = kept m s sheet calls in
       record {
         bytes = reached.tallied.bytes;

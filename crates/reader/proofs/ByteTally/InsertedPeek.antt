@@ -1,22 +1,21 @@
 -- A peek put in before a call by the same reader, over any reading that settles: the call answers as without it, only that the peek
 -- has passed what the call would have passed first. Assumes nothing.
-use Rattle.std.proofs.Common.{◌≡◌, ℕ, zero, suc, ◌+◌, ◌≤◌, Bool, true, false, cond, eqb, List, [], ◌∷◌, length, sym, refl, ap, ◌∙◌, add-zero, arith, eqb-true}
+use Rattle.std.proofs.Common.{◌≡◌, ℕ, zero, suc, ◌+◌, ◌≤◌, Bool, true, false, eqb, List, [], ◌∷◌, length, sym, refl, ap, ◌∙◌, add-zero, arith, eqb-true}
 use mathlib.Core.Option.{Option, some, none}
 use Rattle.reader.specs.declared.state.Reader.{Reader}
-use Rattle.reader.specs.declared.state.Reader.TheVariants.{Integer, Fraction, Exponent, Special}
 use Rattle.reader.specs.declared.state.State.{State}
 use Rattle.reader.specs.Reading.{Reading, passed_at}
 use Rattle.reader.specs.State.{count_of, count_sum, moved_to}
-use Rattle.reader.specs.Answer.{Outcome, SkipOutcome}
-use Rattle.reader.specs.Calls.{refusal_of, refusal_with, refused, seen_past, peeked, peek_of, take_byte, next_of, read_byte_if, read_if_of, read_of}
-use Rattle.reader.specs.Repeat.{plus, summed, until_none, repeated}
+use Rattle.reader.specs.Answer.{Outcome}
+use Rattle.reader.specs.Calls.{refusal_of, peeked, peek_of, take_byte, next_of, read_byte_if, read_if_of, read_of}
+use Rattle.reader.specs.Repeat.{summed, until_none, repeated}
 use Rattle.reader.specs.ZeroSkip.{is_zero, raised, zero_read_of, skip_refusal, skipped, skip_zeros_of}
-use Rattle.reader.proofs.state.Refusals.{within, skip_within, still-admitted, still-skipping, peek-admitted, turned-away}
-use Rattle.reader.proofs.passing.Passed.{passed-fits}
-use Rattle.reader.proofs.iterator.Zeros.{skip-admitted}
-use Rattle.reader.proofs.ByteTally.Settling.{Settles, passes-no-more}
+use Rattle.reader.proofs.state.Refusals.{within, skip_within, still_admitted, still_skipping, peek_admitted, turned_away}
+use Rattle.reader.proofs.passing.Passed.{passed_fits}
+use Rattle.reader.proofs.iterator.Zeros.{skip_admitted}
+use Rattle.reader.proofs.ByteTally.Settling.{Settles, passes_no_more}
 use Rattle.reader.proofs.state.Updates.{count_moved}
-use Rattle.reader.proofs.ByteTally.Peek.{peek-inside, peek-counts}
+use Rattle.reader.proofs.ByteTally.Peek.{peek_inside, peek_counts}
 
 -- the same outcome with nothing passed
 abbrev pub without_passed : Outcome → Outcome
@@ -24,13 +23,13 @@ without_passed o = record { refusal = o.refusal; byte = o.byte; taken = o.taken;
 
 -- the calls after what was seen look at it alone
 module _ (m : Reading) (r : Reader) (o : Outcome) where
-  take-without : (b : Option ℕ) → take_byte m r (without_passed o) b ≡ without_passed (take_byte m r o b)
-  take-without none = refl
-  take-without (some b) = refl
+  take_without : (b : Option ℕ) → take_byte m r (without_passed o) b ≡ without_passed (take_byte m r o b)
+  take_without none = refl
+  take_without (some b) = refl
 
-  pub take-passed : (b : Option ℕ) → (take_byte m r o b).passed ≡ o.passed
-  take-passed none = refl
-  take-passed (some b) = refl
+  pub take_passed : (b : Option ℕ) → (take_byte m r o b).passed ≡ o.passed
+  take_passed none = refl
+  take_passed (some b) = refl
 
 module _ (wanted : ℕ → Bool) (o : Outcome) where
   read_without : (b : Option ℕ) → read_byte_if wanted (without_passed o) b ≡ without_passed (read_byte_if wanted o b)
@@ -40,16 +39,16 @@ module _ (wanted : ℕ → Bool) (o : Outcome) where
     go true e = rw e
     go false e = rw e
 
-  pub read-passed : (b : Option ℕ) → (read_byte_if wanted o b).passed ≡ o.passed
-  read-passed none = refl
-  read-passed (some b) = go (wanted b) refl where
+  pub read_passed : (b : Option ℕ) → (read_byte_if wanted o b).passed ≡ o.passed
+  read_passed none = refl
+  read_passed (some b) = go (wanted b) refl where
     go : (t : Bool) → wanted b ≡ t → (read_byte_if wanted o (some b)).passed ≡ o.passed
     go true e = rw e
     go false e = rw e
 
-raised-without : (r : Reader) (o : Outcome) (b : Option ℕ) → raised r (without_passed o) b ≡ without_passed (raised r o b)
-raised-without r o none = refl
-raised-without r o (some b) = refl
+raised_without : (r : Reader) (o : Outcome) (b : Option ℕ) → raised r (without_passed o) b ≡ without_passed (raised r o b)
+raised_without r o none = refl
+raised_without r o (some b) = refl
 
 pub raised_passed : (r : Reader) (o : Outcome) (b : Option ℕ) → (raised r o b).passed ≡ o.passed
 raised_passed r o none = refl
@@ -82,54 +81,54 @@ module _ (m : Reading) (law : Settles m) (s : List ℕ) (st : State) (r : Reader
       let w = within m.flags s st r clear in
       let k = passed_at m s (eqb (count_of st r) 0) st.cursor in
       let here = moved_to st (st.cursor + k) in
-      let inside : here.cursor ≤ length s = passed-fits m s (eqb (count_of st r) 0) st.cursor w.0 in
+      let inside : here.cursor ≤ length s = passed_fits m s (eqb (count_of st r) 0) st.cursor w.0 in
       let counts : count_sum here ≤ here.cursor = omega (arith, w.1) in
-      peek-admitted m s here r (still-admitted m.flags s st here r inside counts clear)
-      ∙ rw (count_moved st (st.cursor + k) r, passes-no-more m law s (eqb (count_of st r) 0) st.cursor, add-zero)
+      peek_admitted m s here r (still_admitted m.flags s st here r inside counts clear)
+      ∙ rw (count_moved st (st.cursor + k) r, passes_no_more m law s (eqb (count_of st r) 0) st.cursor, add-zero)
 
-  pub peek-twice : peek_of m s (peek_of m s st r).state r ≡ without_passed (peek_of m s st r)
-  peek-twice = go (eqb (refusal_of m s st r) 0) refl where
+  pub peek_twice : peek_of m s (peek_of m s st r).state r ≡ without_passed (peek_of m s st r)
+  peek_twice = go (eqb (refusal_of m s st r) 0) refl where
     go : (t : Bool) → eqb (refusal_of m s st r) 0 ≡ t → peek_of m s (peek_of m s st r).state r ≡ without_passed (peek_of m s st r)
     go true t =
         let clear = eqb-true (refusal_of m s st r) 0 t in
-        let seen = peek-admitted m s st r clear in
+        let seen = peek_admitted m s st r clear in
         ap (λ (o : Outcome). peek_of m s o.state r) seen ∙ seen_again clear ∙ sym (ap without_passed seen)
     go false t =
-        let seen = turned-away m s st r t in
+        let seen = turned_away m s st r t in
         ap (λ (o : Outcome). peek_of m s o.state r) seen ∙ seen ∙ sym (ap without_passed seen)
 
-  pub take-after-peek : next_of m s (peek_of m s st r).state r ≡ without_passed (next_of m s st r)
+  pub take_after_peek : next_of m s (peek_of m s st r).state r ≡ without_passed (next_of m s st r)
   unfolding next_of
-  take-after-peek =
-      ap (λ (o : Outcome). take_byte m r o o.byte) peek-twice ∙ take-without m r (peek_of m s st r) (peek_of m s st r).byte
+  take_after_peek =
+      ap (λ (o : Outcome). take_byte m r o o.byte) peek_twice ∙ take_without m r (peek_of m s st r) (peek_of m s st r).byte
 
   read_after_peek : (wanted : ℕ → Bool) → read_if_of m s (peek_of m s st r).state r wanted ≡ without_passed (read_if_of m s st r wanted)
   unfolding read_if_of
   read_after_peek wanted =
-      ap (λ (o : Outcome). read_byte_if wanted o o.byte) peek-twice ∙ read_without wanted (peek_of m s st r) (peek_of m s st r).byte
+      ap (λ (o : Outcome). read_byte_if wanted o o.byte) peek_twice ∙ read_without wanted (peek_of m s st r) (peek_of m s st r).byte
 
   -- and sees what it would have seen
-  pub read-sees-same : (wanted : ℕ → Bool)
+  pub read_sees_same : (wanted : ℕ → Bool)
       → read_of m s (peek_of m s st r).state r wanted ≡ record { outcome = without_passed (read_if_of m s st r wanted); seen = (peek_of m s st r).byte }
-  read-sees-same wanted = λ i. record { outcome = read_after_peek wanted i; seen = (peek-twice i).byte }
+  read_sees_same wanted = λ i. record { outcome = read_after_peek wanted i; seen = (peek_twice i).byte }
 
   zero_after_peek : zero_read_of m s r (peek_of m s st r).state ≡ without_passed (zero_read_of m s r st)
   unfolding zero_read_of
   zero_after_peek =
       ap (λ (o : Outcome). raised r o o.byte) (read_after_peek is_zero)
-      ∙ raised-without r (read_if_of m s st r is_zero) (read_if_of m s st r is_zero).byte
+      ∙ raised_without r (read_if_of m s st r is_zero) (read_if_of m s st r is_zero).byte
 
-  pub take-passes : (next_of m s st r).passed ≡ (peek_of m s st r).passed
+  pub take_passes : (next_of m s st r).passed ≡ (peek_of m s st r).passed
   unfolding next_of
-  take-passes = take-passed m r (peek_of m s st r) (peek_of m s st r).byte
+  take_passes = take_passed m r (peek_of m s st r) (peek_of m s st r).byte
 
-  pub read-passes : (wanted : ℕ → Bool) → (read_if_of m s st r wanted).passed ≡ (peek_of m s st r).passed
+  pub read_passes : (wanted : ℕ → Bool) → (read_if_of m s st r wanted).passed ≡ (peek_of m s st r).passed
   unfolding read_if_of
-  read-passes wanted = read-passed wanted (peek_of m s st r) (peek_of m s st r).byte
+  read_passes wanted = read_passed wanted (peek_of m s st r) (peek_of m s st r).byte
 
   zero_passes : (zero_read_of m s r st).passed ≡ (peek_of m s st r).passed
   unfolding zero_read_of
-  zero_passes = raised_passed r (read_if_of m s st r is_zero) (read_if_of m s st r is_zero).byte ∙ read-passes is_zero
+  zero_passes = raised_passed r (read_if_of m s st r is_zero) (read_if_of m s st r is_zero).byte ∙ read_passes is_zero
 
   -- the reads of a zero skip after a peek
   zeros_after_peek : repeated (length s) (zero_read_of m s r) (peek_of m s st r).state
@@ -139,9 +138,9 @@ module _ (m : Reading) (law : Settles m) (s : List ℕ) (st : State) (r : Reader
       ∙ ap (summed (without_passed (zero_read_of m s r st))) (onward_same (zero_read_of m s r st) (length s) (zero_read_of m s r))
 
   -- a zero skip that answers 0 for a number is not refused
-  pub skip-clear : (skip_zeros_of m s st r).refusal ≡ 0 → skip_refusal m.flags s st r ≡ 0
+  pub skip_clear : (skip_zeros_of m s st r).refusal ≡ 0 → skip_refusal m.flags s st r ≡ 0
   unfolding skip_zeros_of
-  skip-clear e = go (eqb (skip_refusal m.flags s st r) 0) refl e where
+  skip_clear e = go (eqb (skip_refusal m.flags s st r) 0) refl e where
     go : (t : Bool) → eqb (skip_refusal m.flags s st r) 0 ≡ t → (skip_zeros_of m s st r).refusal ≡ 0 → skip_refusal m.flags s st r ≡ 0
     go true t h = eqb-true (skip_refusal m.flags s st r) 0 t
     go false t h = rw t at h
@@ -149,7 +148,7 @@ module _ (m : Reading) (law : Settles m) (s : List ℕ) (st : State) (r : Reader
   -- so a zero skip that is not refused takes as many zeros, and returns the same state
   module _ (clear : skip_refusal m.flags s st r ≡ 0) where
     skips : skip_zeros_of m s st r ≡ skipped (repeated (length s) (zero_read_of m s r) st)
-    skips = sym (skip-admitted m s st r clear)
+    skips = sym (skip_admitted m s st r clear)
 
     skips_after_peek : skip_zeros_of m s (peek_of m s st r).state r
         ≡ skipped (summed (without_passed (zero_read_of m s r st)) (until_none (length s) (zero_read_of m s r) (zero_read_of m s r st)))
@@ -157,15 +156,15 @@ module _ (m : Reading) (law : Settles m) (s : List ℕ) (st : State) (r : Reader
     skips_after_peek =
         let w = skip_within m.flags s st r clear in
         let here = (peek_of m s st r).state in
-        rw (still-skipping m.flags s st here r (peek-inside m s st r w.0) (peek-counts m s st r w.1) clear) (ap skipped zeros_after_peek)
+        rw (still_skipping m.flags s st here r (peek_inside m s st r w.0) (peek_counts m s st r w.1) clear) (ap skipped zeros_after_peek)
 
-    pub zeros-same : (skip_zeros_of m s (peek_of m s st r).state r).zeros ≡ (skip_zeros_of m s st r).zeros
-    zeros-same = rw (skips_after_peek, skips, summed_taken (zero_read_of m s r st) (until_none (length s) (zero_read_of m s r) (zero_read_of m s r st)))
+    pub zeros_same : (skip_zeros_of m s (peek_of m s st r).state r).zeros ≡ (skip_zeros_of m s st r).zeros
+    zeros_same = rw (skips_after_peek, skips, summed_taken (zero_read_of m s r st) (until_none (length s) (zero_read_of m s r) (zero_read_of m s r st)))
 
-    pub state-same : (skip_zeros_of m s (peek_of m s st r).state r).state ≡ (skip_zeros_of m s st r).state
-    state-same = rw (skips_after_peek, skips) (summed_state (zero_read_of m s r st) (until_none (length s) (zero_read_of m s r) (zero_read_of m s r st)))
+    pub state_same : (skip_zeros_of m s (peek_of m s st r).state r).state ≡ (skip_zeros_of m s st r).state
+    state_same = rw (skips_after_peek, skips) (summed_state (zero_read_of m s r st) (until_none (length s) (zero_read_of m s r) (zero_read_of m s r st)))
 
-    pub passed-adds : (peek_of m s st r).passed + (skip_zeros_of m s (peek_of m s st r).state r).passed ≡ (skip_zeros_of m s st r).passed
-    passed-adds =
+    pub passed_adds : (peek_of m s st r).passed + (skip_zeros_of m s (peek_of m s st r).state r).passed ≡ (skip_zeros_of m s st r).passed
+    passed_adds =
         rw (skips_after_peek, skips, ← zero_passes)
         (summed_passed (zero_read_of m s r st) (until_none (length s) (zero_read_of m s r) (zero_read_of m s r st)))

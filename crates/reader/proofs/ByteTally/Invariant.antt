@@ -1,5 +1,5 @@
 -- The byte tally over any reading: each step keeps it, and so does each call, a zero skip with all its reads. Assumes nothing.
-use Rattle.std.proofs.Common.{◌≡◌, ℕ, zero, suc, ◌+◌, ◌<◌, ◌≤◌, Bool, true, false, cond, eqb, List, [], ◌∷◌, ◌++◌, length, take, drop, replicate, sym, refl, ap, ◌∙◌, append_assoc, arith, length-take-le, take-add}
+use Rattle.std.proofs.Common.{◌≡◌, ℕ, zero, suc, ◌+◌, ◌<◌, ◌≤◌, List, [], ◌∷◌, length, take, refl, ap, ◌∙◌, append_assoc, arith, length-take-le, take-add}
 use mathlib.Core.Option.{Option, some, none}
 use Rattle.reader.specs.declared.state.Reader.{Reader}
 use Rattle.reader.specs.declared.state.State.{State}
@@ -10,7 +10,7 @@ use Rattle.reader.specs.Repeat.{summed, until_none}
 use Rattle.reader.specs.ZeroSkip.{zero_read_of}
 use Rattle.reader.specs.History.{a_zero_read, Step, step_of, zero_steps, joined, step_count}
 use Rattle.reader.specs.ByteTally.{RunAllowed, RunsAllowed}
-use Rattle.reader.proofs.ByteTally.Steps.{Moves, zero-step, zero-counts}
+use Rattle.reader.proofs.ByteTally.Steps.{Moves, zero_step, zero_counts}
 
 -- A state with the steps that led to it from a fresh one.
 pub record Tallied (m : Reader → Reading) (s : List ℕ) (sheet : Sheet) (st : State) (steps : List Step) : Type 0 where
@@ -29,8 +29,8 @@ module _ (m : Reader → Reading) (s : List ℕ) (sheet : Sheet) where
     allowed : 0 < e.passed → RunAllowed m s e steps
     allowed h = record { separators = rw place moves.only; rule = rw (place, ← so_far.counts e.reader) (moves.by_rule h) }
 
-    pub tallied-on : Tallied m s sheet then (e ∷ steps)
-    tallied-on =
+    pub tallied_on : Tallied m s sheet then (e ∷ steps)
+    tallied_on =
         record {
           bytes =
               rw (
@@ -61,10 +61,10 @@ module _ (m : Reader → Reading) (s : List ℕ) (sheet : Sheet) where
 
     module _ (st : State) (steps : List Step) (so_far : Tallied m s sheet st steps) where
       one : Tallied m s sheet (call st).state (step_of r a_zero_read (call st) ∷ steps)
-      one = tallied-on st steps so_far (step_of r a_zero_read (call st)) (call st).state (zero-step m s st r)
+      one = tallied_on st steps so_far (step_of r a_zero_read (call st)) (call st).state (zero_step m s st r)
 
       moved : (call st).state.cursor ≡ st.cursor + (call st).taken + (call st).passed
-      moved = omega (arith, (zero-step m s st r).cursor, zero-counts m s st r)
+      moved = omega (arith, (zero_step m s st r).cursor, zero_counts m s st r)
 
       last : Skipping st steps []
       last = record { tallied = one; cursor = moved }

@@ -8,8 +8,8 @@ use Rattle.reader.specs.Reading.{Reading, may_pass}
 use Rattle.reader.specs.State.{count_of, count_sum, moved_to}
 use Rattle.reader.specs.Answer.{Outcome}
 use Rattle.reader.specs.Calls.{refusal_of, refused, peeked, peek_of}
-use Rattle.reader.proofs.state.Refusals.{peek-admitted, turned-away}
-use Rattle.reader.proofs.passing.Passed.{passed-fits, passes-only, passes-by-rule}
+use Rattle.reader.proofs.state.Refusals.{peek_admitted, turned_away}
+use Rattle.reader.proofs.passing.Passed.{passed_fits, passes_only, passes_by_rule}
 
 -- how an outcome stands to the state it came from, where the call took nothing
 pub record Peeks (m : Reading) (s : List ℕ) (st : State) (r : Reader) (o : Outcome) : Type 0 where
@@ -41,23 +41,23 @@ module _ (m : Reading) (s : List ℕ) (st : State) (r : Reader) where
       record {
         moves = refl;
         sees = λ b e. e;
-        only = passes-only m s is_first st.cursor;
-        by_rule = passes-by-rule m s is_first st.cursor;
-        inside = passed-fits m s is_first st.cursor;
+        only = passes_only m s is_first st.cursor;
+        by_rule = passes_by_rule m s is_first st.cursor;
+        inside = passed_fits m s is_first st.cursor;
         none_taken = refl;
       }
 
   pub peeks : Peeks m s st r (peek_of m s st r)
   peeks = go (eqb (refusal_of m s st r) 0) refl where
     go : (t : Bool) → eqb (refusal_of m s st r) 0 ≡ t → Peeks m s st r (peek_of m s st r)
-    go true t = rw (peek-admitted m s st r (eqb-true (refusal_of m s st r) 0 t)) peeked_peeks
-    go false t = rw (turned-away m s st r t) (refused_peeks m s st r (refusal_of m s st r))
+    go true t = rw (peek_admitted m s st r (eqb-true (refusal_of m s st r) 0 t)) peeked_peeks
+    go false t = rw (turned_away m s st r t) (refused_peeks m s st r (refusal_of m s st r))
 
   -- the cursor stays within the buffer, and the counts within the cursor
-  pub peek-inside : st.cursor ≤ length s → (peek_of m s st r).state.cursor ≤ length s
+  pub peek_inside : st.cursor ≤ length s → (peek_of m s st r).state.cursor ≤ length s
   unfolding moved_to
-  peek-inside h = rw peeks.moves (peeks.inside h)
+  peek_inside h = rw peeks.moves (peeks.inside h)
 
-  pub peek-counts : count_sum st ≤ st.cursor → count_sum (peek_of m s st r).state ≤ (peek_of m s st r).state.cursor
+  pub peek_counts : count_sum st ≤ st.cursor → count_sum (peek_of m s st r).state ≤ (peek_of m s st r).state.cursor
   unfolding moved_to
-  peek-counts h = rw peeks.moves (omega arith)
+  peek_counts h = rw peeks.moves (omega arith)

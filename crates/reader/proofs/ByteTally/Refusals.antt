@@ -1,6 +1,6 @@
 -- Which refusals a list of calls can meet: from a fresh cursor, by demand 1 and the byte tally, neither 16 nor 17, and so 18 only where
 -- no reader's consecutive flag stands alone. Assumes nothing.
-use Rattle.std.proofs.Common.{◌≡◌, ℕ, ◌≤◌, Bool, true, not, ◌⊎◌, List, [], ◌∷◌, length, sym, refl, ◌∙◌, subst, inl, inr, ⊎_elim, arith}
+use Rattle.std.proofs.Common.{◌≡◌, ℕ, ◌≤◌, Bool, true, not, ◌⊎◌, List, [], ◌∷◌, length, sym, ◌∙◌, subst, inl, inr, ⊎_elim, arith}
 use Rattle.word.specs.Check.{line}
 use Rattle.reader.specs.declared.state.Reader.{Reader}
 use Rattle.reader.specs.declared.state.Reader.TheVariants.{Integer, Fraction, Exponent, Special}
@@ -10,9 +10,9 @@ use Rattle.reader.specs.State.{Sheet, count_sum, fresh_on}
 use Rattle.reader.specs.Calls.{line_consecutive}
 use Rattle.reader.specs.History.{Call, peek_by, take_by, read_if_by, zero_skip_by, block_by, Answered, answer_by, answer_to, number_in, Trace, trace_from, with_answer, trace_of}
 use Rattle.reader.specs.ByteTally.{NeverRefusedBy, trace_fresh}
-use Rattle.reader.specs.RefusalKeeps.{PlaceFault, SpecialFault, OwnFault, Fault, ResultOrRefusal}
-use Rattle.reader.proofs.Demand1.{result-or-refusal}
-use Rattle.reader.proofs.ByteTally.AnyReading.{Kept, kept_fresh, kept_on, own-word}
+use Rattle.reader.specs.RefusalKeeps.{PlaceFault, OwnFault, Fault}
+use Rattle.reader.proofs.Demand1.{result_or_refusal}
+use Rattle.reader.proofs.ByteTally.AnyReading.{Kept, kept_fresh, kept_on, own_word}
 
 alone_fails : (alone : Bool) (number : ℕ) → alone ≡ true → line number (not alone) ≡ number
 alone_fails alone number e = rw e
@@ -39,8 +39,8 @@ module _ (m : Reader → Reading) (s : List ℕ) (st : State) (own : (r : Reader
         ⊎_elim (λ place. absurd (no_place number place)) (⊎_elim (λ special. special.0) (λ fault. absurd (no_own r number fault)))
     only_special (block_by r n) number = ⊎_elim (λ place. absurd (no_place number place)) (λ special. special.0)
 
-    pub result-or-18 : (call : Call) → (number_in (answer_by m s st call) ≡ 0) ⊎ (number_in (answer_by m s st call) ≡ 18)
-    result-or-18 call = ⊎_elim inl (λ keeps. inr (only_special call (number_in (answer_by m s st call)) keeps.number)) (result-or-refusal m s st call)
+    pub result_or_18 : (call : Call) → (number_in (answer_by m s st call) ≡ 0) ⊎ (number_in (answer_by m s st call) ≡ 18)
+    result_or_18 call = ⊎_elim inl (λ keeps. inr (only_special call (number_in (answer_by m s st call)) keeps.number)) (result_or_refusal m s st call)
 
 -- so, over a list, no call is refused by another number
 module _ (m : Sheet → Reader → Reading) (s : List ℕ) (sheet : Sheet) (own : (r : Reader) → line_consecutive (m sheet r).flags r ≡ 0)
@@ -51,11 +51,11 @@ module _ (m : Sheet → Reader → Reading) (s : List ℕ) (sheet : Sheet) (own 
     never_on (call ∷ rest) w so_far never =
         let here = so_far.tallied in
         let either : (number_in (answer_by (m sheet) s w.state call) ≡ 0) ⊎ (number_in (answer_by (m sheet) s w.state call) ≡ 18)
-        = result-or-18 (m sheet) s w.state own here.inside here.sums call in
+        = result_or_18 (m sheet) s w.state own here.inside here.sums call in
         let other : number_in (answer_to m s w.state call) ≡ number → ⊥ =
-        subst (λ (a : Answered). number_in a ≡ number → ⊥) (sym (own-word m s sheet w so_far call))
+        subst (λ (a : Answered). number_in a ≡ number → ⊥) (sym (own_word m s sheet w so_far call))
         (λ e. ⊎_elim (λ z. success (sym z ∙ e)) (λ z. special (sym z ∙ e)) either) in
         never_on rest (with_answer w (answer_to m s w.state call)) (kept_on m s sheet w so_far call) (never, other)
 
-    pub never-refused-by : (calls : List Call) → NeverRefusedBy number (trace_fresh m s sheet calls).history
-    never-refused-by calls = never_on calls (trace_from (fresh_on sheet)) (kept_fresh m s sheet) tt
+    pub never_refused_by : (calls : List Call) → NeverRefusedBy number (trace_fresh m s sheet calls).history
+    never_refused_by calls = never_on calls (trace_from (fresh_on sheet)) (kept_fresh m s sheet) tt

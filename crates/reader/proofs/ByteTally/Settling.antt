@@ -5,8 +5,8 @@ use mathlib.Core.Option.{Option, some, none}
 use Rattle.reader.specs.declared.rule.Neighbour.{Neighbour}
 use Rattle.reader.specs.Place.{is_separator, byte_at, before, after, first_other, separator_run, nearest}
 use Rattle.reader.specs.Reading.{Reading, neighbour_of, previous, following, passes_byte, may_pass, passed_at}
-use Rattle.reader.proofs.passing.Places.{before_next, run-byte, byte_inside, byte-here}
-use Rattle.reader.proofs.passing.Passed.{PassesHere, other_differs, passes-here, passes_none, passes-one, passes-run}
+use Rattle.reader.proofs.passing.Places.{before_next, run_byte, byte_inside, byte_here}
+use Rattle.reader.proofs.passing.Passed.{PassesHere, other_differs, passes_here, passes_none, passes_one, passes_run}
 use Rattle.reader.proofs.Booleans.{and_fails}
 
 -- The one law that a tally asks of a reading: without the consecutive flag, a rule that holds in front of a separator does not hold
@@ -23,7 +23,7 @@ plain_nearest separator consecutive bytes e = rw e
 module _ (m : Reading) (law : Settles m) (s : List ℕ) (is_first : Bool) (place : ℕ) where
   run_settles : may_pass m s is_first (place + separator_run m.separator (drop place s)) ≡ false
   unfolding may_pass
-  run_settles = rw (run-byte m.separator s place) (go (first_other m.separator (drop place s)) refl) where
+  run_settles = rw (run_byte m.separator s place) (go (first_other m.separator (drop place s)) refl) where
     go :
         (o : Option ℕ) → first_other m.separator (drop place s) ≡ o
         → passes_byte m s is_first (place + separator_run m.separator (drop place s)) o ≡ false
@@ -34,12 +34,12 @@ module _ (m : Reading) (law : Settles m) (s : List ℕ) (is_first : Bool) (place
   unfolding may_pass
   one_settles e k = go (byte_at s (place + 1)) refl where
     p : PassesHere m s is_first place
-    p = passes-here m s is_first place e
+    p = passes_here m s is_first place e
 
     back : byte_at s place ≡ some p.byte → previous m s (place + 1) ≡ neighbour_of m (some p.byte)
     back q =
         let h = byte_inside s place p.byte q in
-        let same : get_or s place 0 ≡ p.byte = cc (byte-here s place h, q) in
+        let same : get_or s place 0 ≡ p.byte = cc (byte_here s place h, q) in
         ap (neighbour_of m) (plain_nearest m.separator m.flags.consecutive (before s (place + 1)) k ∙ rw (before_next s place h, same))
 
     go : (o : Option ℕ) → byte_at s (place + 1) ≡ o → passes_byte m s is_first (place + 1) o ≡ false
@@ -56,8 +56,8 @@ module _ (m : Reading) (law : Settles m) (s : List ℕ) (is_first : Bool) (place
   settled = go (may_pass m s is_first place) m.flags.consecutive refl refl where
     go : (t c : Bool) → may_pass m s is_first place ≡ t → m.flags.consecutive ≡ c → may_pass m s is_first (place + passed_at m s is_first place) ≡ false
     go false c e k = rw (passes_none m s is_first place e, add-zero, e)
-    go true true e k = rw (passes-run m s is_first place e k) run_settles
-    go true false e k = rw (passes-one m s is_first place e k) (one_settles e k)
+    go true true e k = rw (passes_run m s is_first place e k) run_settles
+    go true false e k = rw (passes_one m s is_first place e k) (one_settles e k)
 
-  pub passes-no-more : passed_at m s is_first (place + passed_at m s is_first place) ≡ 0
-  passes-no-more = passes_none m s is_first (place + passed_at m s is_first place) settled
+  pub passes_no_more : passed_at m s is_first (place + passed_at m s is_first place) ≡ 0
+  passes_no_more = passes_none m s is_first (place + passed_at m s is_first place) settled

@@ -13,8 +13,8 @@ use Rattle.reader.specs.Calls.{refusal_with, peek_of, taken_from, take_byte, nex
 use Rattle.reader.specs.ZeroSkip.{is_zero, raised, zero_read_of}
 use Rattle.reader.specs.Block.{block_refusal, take_n_of, take_n_part}
 use Rattle.reader.specs.History.{Kind, a_peek, a_take, a_read, a_zero_read, a_block, Step, byte_taken, step_of, digits_counted, counts_for}
-use Rattle.reader.proofs.state.Refusals.{within, still-admitted}
-use Rattle.reader.proofs.iterator.ConditionalReads.{read-cases}
+use Rattle.reader.proofs.state.Refusals.{within, still_admitted}
+use Rattle.reader.proofs.iterator.ConditionalReads.{read_cases}
 use Rattle.reader.proofs.passing.Places.{byte_inside}
 use Rattle.reader.proofs.state.Updates.{counted_stays, counted_sheet, count_moved, counted_adds, counted_sum}
 use Rattle.reader.proofs.ByteTally.Peek.{Peeks, peeks}
@@ -35,7 +35,7 @@ pub moves_clear : (m : Reader → Reading) (s : List ℕ) (st : State) (e : Step
     → (f : Flags) (r : Reader) → refusal_with f s st r ≡ 0 → refusal_with f s then r ≡ 0
 moves_clear m s st e then moves f r clear =
     let w = within f s st r clear in
-    still-admitted f s st then r (moves.inside w.0) (omega (arith, moves.sums, moves.cursor, w.1)) clear
+    still_admitted f s st then r (moves.inside w.0) (omega (arith, moves.sums, moves.cursor, w.1)) clear
 
 -- COUNTS
 
@@ -141,8 +141,8 @@ module _ (m : Reader → Reading) (s : List ℕ) (st : State) (r : Reader) where
   view : Peeks (m r) s st r seen
   view = peeks (m r) s st r
 
-  pub peek-step : Moves m s st (record { reader = r; kind = a_peek; passed = seen.passed; bytes = [] }) seen.state
-  peek-step = stays m s st r a_peek seen view
+  pub peek_step : Moves m s st (record { reader = r; kind = a_peek; passed = seen.passed; bytes = [] }) seen.state
+  peek_step = stays m s st r a_peek seen view
 
   pub take_step : Moves m s st (step_of r a_take (next_of (m r) s st r)) (next_of (m r) s st r).state
   unfolding next_of
@@ -153,37 +153,37 @@ module _ (m : Reader → Reading) (s : List ℕ) (st : State) (r : Reader) where
 
   pub read_step : (wanted : ℕ → Bool) → Moves m s st (step_of r a_read (read_if_of (m r) s st r wanted)) (read_if_of (m r) s st r wanted).state
   read_step wanted =
-      read-cases (m r) s st r wanted
+      read_cases (m r) s st r wanted
       (λ o. Moves m s st (step_of r a_read o) o.state)
       (λ b e. takes_one m s st r a_read seen view b (moved_to seen.state (seen.state.cursor + 1)) e (moved_behind m seen.state r b a_read refl))
       (stays m s st r a_read seen view)
       (λ e. rw e (stays m s st r a_read seen view))
 
   -- a read of a zero skip raises the count
-  pub zero-step : Moves m s st (step_of r a_zero_read (zero_read_of (m r) s r st)) (zero_read_of (m r) s r st).state
+  pub zero_step : Moves m s st (step_of r a_zero_read (zero_read_of (m r) s r st)) (zero_read_of (m r) s r st).state
   unfolding zero_read_of
-  zero-step =
-      read-cases (m r) s st r is_zero
+  zero_step =
+      read_cases (m r) s st r is_zero
       (λ o. Moves m s st (step_of r a_zero_read (raised r o o.byte)) (raised r o o.byte).state)
       (λ b e. takes_one m s st r a_zero_read seen view b (counted_by (moved_to seen.state (seen.state.cursor + 1)) r) e (counted_behind m seen.state r b a_zero_read refl))
       (stays m s st r a_zero_read seen view)
       (λ e. rw e (stays m s st r a_zero_read seen view))
 
   -- as many bytes are taken as are answered
-  pub take-counts : (next_of (m r) s st r).taken ≡ length (byte_taken (next_of (m r) s st r).byte)
+  pub take_counts : (next_of (m r) s st r).taken ≡ length (byte_taken (next_of (m r) s st r).byte)
   unfolding next_of
-  take-counts = go seen.byte refl where
+  take_counts = go seen.byte refl where
     go : (b : Option ℕ) → seen.byte ≡ b → (take_byte (m r) r seen b).taken ≡ length (byte_taken (take_byte (m r) r seen b).byte)
     go none e = rw e view.none_taken
     go (some b) e = refl
 
-  pub read-counts : (wanted : ℕ → Bool) → (read_if_of (m r) s st r wanted).taken ≡ length (byte_taken (read_if_of (m r) s st r wanted).byte)
-  read-counts wanted = read-cases (m r) s st r wanted (λ o. o.taken ≡ length (byte_taken o.byte)) (λ b e. refl) refl (λ e. rw e view.none_taken)
+  pub read_counts : (wanted : ℕ → Bool) → (read_if_of (m r) s st r wanted).taken ≡ length (byte_taken (read_if_of (m r) s st r wanted).byte)
+  read_counts wanted = read_cases (m r) s st r wanted (λ o. o.taken ≡ length (byte_taken o.byte)) (λ b e. refl) refl (λ e. rw e view.none_taken)
 
-  pub zero-counts : (zero_read_of (m r) s r st).taken ≡ length (byte_taken (zero_read_of (m r) s r st).byte)
+  pub zero_counts : (zero_read_of (m r) s r st).taken ≡ length (byte_taken (zero_read_of (m r) s r st).byte)
   unfolding zero_read_of
-  zero-counts =
-      read-cases (m r) s st r is_zero
+  zero_counts =
+      read_cases (m r) s st r is_zero
       (λ o. (raised r o o.byte).taken ≡ length (byte_taken (raised r o o.byte).byte))
       (λ b e. refl)
       refl
@@ -223,10 +223,10 @@ module _ (m : Reader → Reading) (s : List ℕ) (st : State) (r : Reader) where
   abbrev left : ℕ → ℕ
   left n = min n (length s - st.cursor)
 
-  pub block-step : (n : ℕ)
+  pub block_step : (n : ℕ)
       → Moves m s st (record { reader = r; kind = a_block; passed = (take_n_of (m r) s st r n).passed; bytes = take_n_part (m r) s st r n }) (take_n_of (m r) s st r n).state
   unfolding take_n_of take_n_part
-  block-step n = go (eqb (block_refusal s st r) 0) (has_any_flag (m r).flags) refl refl where
+  block_step n = go (eqb (block_refusal s st r) 0) (has_any_flag (m r).flags) refl refl where
     go :
         (t a : Bool) → eqb (block_refusal s st r) 0 ≡ t → has_any_flag (m r).flags ≡ a
         → Moves m s st (record { reader = r; kind = a_block; passed = (take_n_of (m r) s st r n).passed; bytes = take_n_part (m r) s st r n }) (take_n_of (m r) s st r n).state
@@ -234,9 +234,9 @@ module _ (m : Reader → Reading) (s : List ℕ) (st : State) (r : Reader) where
     go true false t a = rw (t, a) (block_of (left n) (omega arith))
     go false a t e = rw t (nothing a_block)
 
-  pub block-counts : (n : ℕ) → (take_n_of (m r) s st r n).taken ≡ length (take_n_part (m r) s st r n)
+  pub block_counts : (n : ℕ) → (take_n_of (m r) s st r n).taken ≡ length (take_n_part (m r) s st r n)
   unfolding take_n_of take_n_part
-  block-counts n = go (eqb (block_refusal s st r) 0) (has_any_flag (m r).flags) refl refl where
+  block_counts n = go (eqb (block_refusal s st r) 0) (has_any_flag (m r).flags) refl refl where
     go :
         (t a : Bool) → eqb (block_refusal s st r) 0 ≡ t → has_any_flag (m r).flags ≡ a
         → (take_n_of (m r) s st r n).taken ≡ length (take_n_part (m r) s st r n)

@@ -13,10 +13,10 @@ use Rattle.reader.specs.ZeroSkip.{is_zero, raised, zero_read_of, zero_reads_of, 
 use Rattle.reader.specs.History.{Call, peek_by, take_by, read_if_by, zero_skip_by, block_by, Answered, with_seen, outcomes_of, reads_made, answer_by, a_zero_read, byte_taken, step_of, zero_steps, steps_of, Step, zeros_told, counts_for, history_count, step_count}
 use Rattle.reader.specs.ByteTally.{CountsAgree, reads_that_took, taken_by_reads, passed_by_reads, ZerosThenNone, SkipTold, AnswerTold}
 use Rattle.reader.proofs.passing.Places.{none_there}
-use Rattle.reader.proofs.state.Refusals.{skip_admits, peek-admitted}
-use Rattle.reader.proofs.iterator.ConditionalReads.{read-cases}
-use Rattle.reader.proofs.iterator.Zeros.{zero_takes_one, outcomes_back, skip-cases}
-use Rattle.reader.proofs.ByteTally.Steps.{moves_clear, zero-step, zero-counts}
+use Rattle.reader.proofs.state.Refusals.{skip_admits, peek_admitted}
+use Rattle.reader.proofs.iterator.ConditionalReads.{read_cases}
+use Rattle.reader.proofs.iterator.Zeros.{zero_takes_one, outcomes_back, skip_cases}
+use Rattle.reader.proofs.ByteTally.Steps.{moves_clear, zero_step, zero_counts}
 
 -- EACH READ
 
@@ -74,7 +74,7 @@ module _ (m : Reading) (s : List ℕ) (st : State) (r : Reader) where
   unfolding zero_read_of peeked
   zero_clear clear =
       raised_number (read_if_of m s st r is_zero) (read_if_of m s st r is_zero).byte
-      ∙ read-cases m s st r is_zero (λ o. o.refusal ≡ 0) (λ b e. refl) refl (λ e. ap (λ (o : Outcome). o.refusal) (peek-admitted m s st r clear))
+      ∙ read_cases m s st r is_zero (λ o. o.refusal ≡ 0) (λ b e. refl) refl (λ e. ap (λ (o : Outcome). o.refusal) (peek_admitted m s st r clear))
 
 -- ALL READS
 
@@ -83,7 +83,7 @@ module _ (m : Reading) (s : List ℕ) (r : Reader) where
   call = zero_read_of m s r
 
   took : (st : State) (b : Option ℕ) → (call st).byte ≡ b → (call st).taken ≡ length (byte_taken b)
-  took st b e = zero-counts (λ q. m) s st r ∙ ap (λ (o : Option ℕ). length (byte_taken o)) e
+  took st b e = zero_counts (λ q. m) s st r ∙ ap (λ (o : Option ℕ). length (byte_taken o)) e
 
   -- a read that took none is the last one, one that took a byte is not
   last_read : (st : State) (following : List Outcome) → refusal_of m s st r ≡ 0 → (call st).byte ≡ none
@@ -106,7 +106,7 @@ module _ (m : Reading) (s : List ℕ) (r : Reader) where
     go : (o : Option ℕ) → (call st).byte ≡ o → ZerosThenNone (with_seen m s r st (call st ∷ []))
     go none e = (e, took st none e, zero_clear m s st r clear, other_seen m s st r e)
     go (some b) e = absurd (omega (arith, (zero_takes_one m s st r b e).inside))
-  reads_end (suc n) st clear few = go (call st).byte refl (reads_end n (call st).state (moves_clear (λ q. m) s st _ (call st).state (zero-step (λ q. m) s st r) m.flags r clear)) where
+  reads_end (suc n) st clear few = go (call st).byte refl (reads_end n (call st).state (moves_clear (λ q. m) s st _ (call st).state (zero_step (λ q. m) s st r) m.flags r clear)) where
     go :
         (o : Option ℕ) → (call st).byte ≡ o
         → (length s ≤ (call st).state.cursor + n → ZerosThenNone (with_seen m s r (call st).state (call (call st).state ∷ until_none n call (call (call st).state))))
@@ -146,9 +146,9 @@ module _ (m : Reading) (s : List ℕ) (st : State) (r : Reader) where
         reads = reads;
       }
 
-  pub skip-told : (skip_zeros_of m s st r).refusal ≡ 0 → SkipTold (skip_zeros_of m s st r) (reads_made m s st r)
-  skip-told =
-      skip-cases m s st r (λ o reads. o.refusal ≡ 0 → SkipTold o reads) (λ t clear. sums_told t)
+  pub skip_told : (skip_zeros_of m s st r).refusal ≡ 0 → SkipTold (skip_zeros_of m s st r) (reads_made m s st r)
+  skip_told =
+      skip_cases m s st r (λ o reads. o.refusal ≡ 0 → SkipTold o reads) (λ t clear. sums_told t)
       (λ away clear. absurd (eqb-false (skip_refusal m.flags s st r) 0 away clear))
 
 -- THE COUNT: what a call's steps add to it is what its answer adds
@@ -179,7 +179,7 @@ module _ (m : Reader → Reading) (s : List ℕ) (st : State) (earlier : List An
       ≡ history_count m q earlier + cond (counts_for q r) (zeros_told (skip_zeros_of (m r) s st r).zeros) 0
   skip_agrees r =
       let by = counts_for q r in
-      skip-cases (m r) s st r
+      skip_cases (m r) s st r
       (λ o reads. step_count m q (zero_steps r (outcomes_of reads) (steps_of earlier)) ≡ history_count m q earlier + cond (counts_for q r) (zeros_told o.zeros) 0)
       (λ clear.
       let made = outcomes_of (with_seen (m r) s r st (zero_reads_of (m r) s st r)) in
@@ -188,21 +188,21 @@ module _ (m : Reader → Reading) (s : List ℕ) (st : State) (earlier : List An
       ∙ ap (λ (n : ℕ). history_count m q earlier + cond by n 0) (sym (ap zeros_told (sums_told (m r) s st r clear).zeros)))
       (λ away. so_far ∙ adds_nothing by (history_count m q earlier))
 
-  pub count-agrees : (call : Call)
+  pub count_agrees : (call : Call)
       → step_count m q (steps_of (answer_by m s st call ∷ earlier)) ≡ history_count m q (answer_by m s st call ∷ earlier)
-  count-agrees (peek_by r) = uncounted r
-  count-agrees (take_by r) = rw so_far
-  count-agrees (read_if_by r wanted) = uncounted r
-  count-agrees (zero_skip_by r) = skip_agrees r
-  count-agrees (block_by r n) = uncounted r
+  count_agrees (peek_by r) = uncounted r
+  count_agrees (take_by r) = rw so_far
+  count_agrees (read_if_by r wanted) = uncounted r
+  count_agrees (zero_skip_by r) = skip_agrees r
+  count_agrees (block_by r n) = uncounted r
 
 module _ (m : Reader → Reading) where
-  pub answer-told : (s : List ℕ) (st : State) (call : Call) → AnswerTold (answer_by m s st call)
-  answer-told s st (peek_by r) = tt
-  answer-told s st (take_by r) = tt
-  answer-told s st (read_if_by r wanted) = tt
-  answer-told s st (zero_skip_by r) = skip-told (m r) s st r
-  answer-told s st (block_by r n) = tt
+  pub answer_told : (s : List ℕ) (st : State) (call : Call) → AnswerTold (answer_by m s st call)
+  answer_told s st (peek_by r) = tt
+  answer_told s st (take_by r) = tt
+  answer_told s st (read_if_by r wanted) = tt
+  answer_told s st (zero_skip_by r) = skip_told (m r) s st r
+  answer_told s st (block_by r n) = tt
 
   pub agreed : (history : List Answered) → CountsAgree m history → (r : Reader) → step_count m r (steps_of history) ≡ history_count m r history
   agreed [] agree r = refl

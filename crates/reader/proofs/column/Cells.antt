@@ -24,11 +24,11 @@ module _ (s : List ℕ) (start end : ℕ) (ordered : start ≤ end) (inside : en
   pub part_length : length (part_from s start end) ≡ end - start
   part_length = simp (length-take, length-drop) (omega arith)
 
-  pub part-byte : (i : ℕ) → i < end - start → get_or (part_from s start end) i 0 ≡ get_or s (start + i) 0
-  part-byte i h = rw (get_or-take, get_or-drop)
+  pub part_byte : (i : ℕ) → i < end - start → get_or (part_from s start end) i 0 ≡ get_or s (start + i) 0
+  part_byte i h = rw (get_or-take, get_or-drop)
 
-  pub empty-cell : (x : Syntax) → end ≤ start → Ordinary x (part_from s start end)
-  empty-cell x empty =
+  pub empty_cell : (x : Syntax) → end ≤ start → Ordinary x (part_from s start end)
+  empty_cell x empty =
       record { begins = λ h. absurd (omega (arith, part_length)); ends = λ h. absurd (omega (arith, part_length)) }
 
   pub ordinary_cell :
@@ -38,23 +38,23 @@ module _ (s : List ℕ) (start end : ℕ) (ordered : start ≤ end) (inside : en
       let first : start + 0 ≡ start = omega arith in
       let last : start + (end - start - 1) ≡ end - 1 = omega arith in
       record {
-        begins = λ h. rw (part-byte 0 (omega arith), first) digit;
-        ends = λ h. rw (part_length, part-byte (end - start - 1) (omega arith), last) (no_separator x.separator _ other);
+        begins = λ h. rw (part_byte 0 (omega arith), first) digit;
+        ends = λ h. rw (part_length, part_byte (end - start - 1) (omega arith), last) (no_separator x.separator _ other);
       }
 
 -- where no pair of separators is counted, no two stand side by side
-none-double :
+none_double :
     (x : Syntax) → is_digit x.separator x.radix ≡ false
     → (l : List ℕ) → pairs_of (doubles x) l ≡ 0
     → (i : ℕ) → i + 1 < length l → get_or l i 0 ≡ x.separator → get_or l (i + 1) 0 ≡ x.separator → ⊥
-none-double x apart [] unpaired i h e f = omega arith
-none-double x apart (b ∷ []) unpaired i h e f = omega arith
-none-double x apart (b ∷ n ∷ l) unpaired zero h e f =
+none_double x apart [] unpaired i h e f = omega arith
+none_double x apart (b ∷ []) unpaired i h e f = omega arith
+none_double x apart (b ∷ n ∷ l) unpaired zero h e f =
     let digit : is_digit n x.radix ≡ false = rw f apart in
     let counted : 1 + pairs_of (doubles x) (n ∷ l) ≡ 0 = rw (eq-eqb b x.separator e, digit, eq-eqb n x.separator f) at unpaired in
     omega arith
-none-double x apart (b ∷ n ∷ l) unpaired (suc i) h e f =
-    none-double x apart (n ∷ l) (omega arith) i (omega arith) e (rw add-one (rw add-one at f))
+none_double x apart (b ∷ n ∷ l) unpaired (suc i) h e f =
+    none_double x apart (n ∷ l) (omega arith) i (omega arith) e (rw add-one (rw add-one at f))
 
 -- the test by which the quick way is taken tells that the buffer is countable: runs are not passed, or it has none
 pub quick_told : (x : Syntax) (r : Reader) (s : List ℕ) (filled : Bool) → is_quick x r s filled ≡ true → Countable x r s
@@ -70,7 +70,7 @@ quick_told x r s filled q =
       apart = apart;
       single = λ runs.
           let found : (filled && eqb (pairs_of (doubles x) s) 0) ≡ true = rw runs at both.1 in
-          none-double x apart s (eqb-true (pairs_of (doubles x) s) 0 ((and-eq-true_iff filled _).0 found).1);
+          none_double x apart s (eqb-true (pairs_of (doubles x) s) 0 ((and-eq-true_iff filled _).0 found).1);
     }
 
 -- the last end is the one at the last index, if there is any
@@ -96,31 +96,31 @@ behind_digits : (x : Syntax) (b : ℕ) (l : List ℕ) → pairs_of (before_digit
 behind_digits x b [] = refl
 behind_digits x b (n ∷ l) = rw (digit_or_none (is_digit n x.radix) (eqb n x.separator), behind_digits x n l)
 
-first-and-behind :
+first_and_behind :
     (x : Syntax) (s : List ℕ) → 0 < length s
     → cond (is_digit (get_or s 0 0) x.radix) 1 0 + pairs_of (before_digits x) s ≡ digits_of x.radix s
-first-and-behind x [] filled = absurd (omega arith)
-first-and-behind x (b ∷ l) filled = rw (behind_digits x b l)
+first_and_behind x [] filled = absurd (omega arith)
+first_and_behind x (b ∷ l) filled = rw (behind_digits x b l)
 
 -- what a stretch adds: nothing where it is empty, else as it begins with a digit or not
 pub empty_stretch : (x : Syntax) (s : List ℕ) → length s ≡ 0 → no_totals ≡ ordinary_totals x s
 empty_stretch x [] e = refl
 empty_stretch x (b ∷ s) e = absurd (omega arith)
 
-pub stretch-told :
+pub stretch_told :
     (x : Syntax) (s : List ℕ) (passed behind digits : ℕ) (first : Bool)
     → passed ≡ pairs_of (passing x) s → behind ≡ pairs_of (before_digits x) s
     → 0 < length s → first ≡ is_digit (get_or s 0 0) x.radix → digits ≡ cond first 1 0 + behind
     → ◌≡◌ {A = Totals} (record { taken = length s - passed; passed = passed; digits = digits }) (ordinary_totals x s)
-stretch-told x s passed behind digits first passes counts filled begins total =
-    rw (passes, total, counts, begins, first-and-behind x s filled)
+stretch_told x s passed behind digits first passes counts filled begins total =
+    rw (passes, total, counts, begins, first_and_behind x s filled)
 
 -- what a cell adds is what its run tells
-pub cell-told :
+pub cell_told :
     (m : Reading) (s : List ℕ) (f : Format) (r : Reader) (run : TakeSums) (digits : ℕ)
     → sums_outcome (fresh_of f) r run ≡ next_all_of m s (fresh_of f) r → digits ≡ own_count r run.count
     → ◌≡◌ {A = Totals} (record { taken = run.at - run.passed; passed = run.passed; digits = digits }) (cell_totals m f r s)
-cell-told m s f r run digits takes own =
+cell_told m s f r run digits takes own =
     let whole : run.at - 0 ≡ run.at = omega arith in
     let known : totals_of r (sums_outcome (fresh_of f) r run) ≡ cell_totals m f r s = ap (totals_of r) takes in
     rw own (rw (whole, given_count (moved_to (fresh_of f) run.at) r run.count) at known)

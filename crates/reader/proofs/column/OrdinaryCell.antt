@@ -18,11 +18,11 @@ use Rattle.reader.specs.Code.Pairs.{matches_of, pairs_of}
 use Rattle.reader.specs.Column.{totals_of}
 use Rattle.reader.specs.Code.OrdinaryCells.{Countable, Ordinary, nothing_before, passing, digits_of, ordinary_totals}
 use Rattle.reader.proofs.passing.Places.{is_separator_lem, no_separator}
-use Rattle.reader.proofs.passing.Landings.{stays-on-other, stays-behind, passes-behind}
+use Rattle.reader.proofs.passing.Landings.{stays_on_other, stays_behind, passes_behind}
 use Rattle.reader.proofs.rule.CommonLaws.{later_looks_behind, single_stops}
 use Rattle.reader.proofs.state.Updates.{state_at, counted_tells, fresh_count}
-use Rattle.reader.proofs.skip.TakeLoop.{Running, running-starts, running-on, running-out}
-use Rattle.reader.proofs.pairs.Counts.{one-pair, no-pair}
+use Rattle.reader.proofs.skip.TakeLoop.{Running, running_starts, running_on, running_out}
+use Rattle.reader.proofs.pairs.Counts.{one_pair, no_pair}
 use Rattle.reader.proofs.Booleans.{and_right}
 
 -- the digits from a place on
@@ -64,12 +64,12 @@ module _ (x : Syntax) (r : Reader) (s : List ℕ) (q : Countable x r s) where
   pairs_past at h differ = go (ltb (suc at) (length s)) refl where
     go : (t : Bool) → ltb (suc at) (length s) ≡ t → pairs_of (passing x) (drop at s) ≡ pairs_of (passing x) (drop (at + 1) s)
     go true t =
-        let e = one-pair (passing x) s at (ltb-true (suc at) (length s) t) in
+        let e = one_pair (passing x) s at (ltb-true (suc at) (length s) t) in
         let n = no_hit (get_or s at 0) (get_or s (suc at) 0) differ in
         rw add-one (omega (arith, rw n at e))
     go false t =
         let out = ltb-false (suc at) (length s) t in
-        rw (add-one, no-pair (passing x) s at out, no-pair (passing x) s (suc at) (omega arith))
+        rw (add-one, no_pair (passing x) s at out, no_pair (passing x) s (suc at) (omega arith))
 
   module _ (at : ℕ) (inside : at + 1 < length s) (equal : get_or s at 0 ≡ x.separator) where
     -- with the consecutive flag no separator follows another
@@ -113,12 +113,12 @@ module _ (x : Syntax) (r : Reader) (s : List ℕ) (q : Countable x r s) where
         → at + 1 ≡ at + passed_at (reading_with x) s is_first at
     lands_behind is_first later t =
         rw later
-        (passes-behind x s false at (omega arith) q.positive equal _ (sym rule_told) (at + 1) t
+        (passes_behind x s false at (omega arith) q.positive equal _ (sym rule_told) (at + 1) t
         (run_of_one (no_separator x.separator (get_or s (at + 1) 0) (hit_ends t))))
 
     stays_here : (is_first : Bool) → is_first ≡ false → matches_of (passing x) (get_or s at 0) (get_or s (at + 1) 0) ≡ false
         → at ≡ at + passed_at (reading_with x) s is_first at
-    stays_here is_first later t = rw later (stays-behind x s false at (omega arith) q.positive equal _ (sym rule_told) t)
+    stays_here is_first later t = rw later (stays_behind x s false at (omega arith) q.positive equal _ (sym rule_told) t)
 
   module _ (f : Format) (o : Ordinary x s) (clear : refusal_with (reading_with x).flags s (fresh_of f) r ≡ 0) where
     abbrev st : State
@@ -138,7 +138,7 @@ module _ (x : Syntax) (r : Reader) (s : List ℕ) (q : Countable x r s) where
         let e : at ≡ length s = omega (arith, here.stands.inside) in
         let P : passed ≡ passed + pairs_of (passing x) (drop at s) = rw (drop_of_length-le s out) (omega arith) in
         let D : count ≡ count + digits_of x.radix (drop at s) = rw (drop_of_length-le s out) (omega arith) in
-        let over = running-out (reading_with x) s r st clear at count passed here out in
+        let over = running_out (reading_with x) s r st clear at count passed here out in
         let none_before : length s - 0 - passed ≡ length s - passed = omega arith in
         told_so passed _ count _ P D (sym (rw none_before at (rw e at over)))
 
@@ -156,7 +156,7 @@ module _ (x : Syntax) (r : Reader) (s : List ℕ) (q : Countable x r s) where
         unfolding reading_with
         takes_here h stays same =
             let d = is_digit (get_or s at 0) x.radix in
-            let on = rw q.counts at (running-on (reading_with x) s r st clear at count passed here at stays h) in
+            let on = rw q.counts at (running_on (reading_with x) s r st clear at count passed here at stays h) in
             told_so (passed + (at - at) + pairs_of (passing x) (drop (at + 1) s)) _ (cond (true && d) (count + 1) count + digits_of x.radix (drop (at + 1) s)) _
             (omega arith)
             (one_more d count (digits_of x.radix (drop (at + 1) s)) (digits_of x.radix (drop at s)) (digits_from_lem x.radix s at h))
@@ -169,8 +169,8 @@ module _ (x : Syntax) (r : Reader) (s : List ℕ) (q : Countable x r s) where
         takes_next inside equal t =
             let d = is_digit (get_or s (at + 1) 0) x.radix in
             let lands = lands_behind at inside equal (eqb count 0) (ne_eqb count 0 (λ z. omega arith)) t in
-            let on = rw q.counts at (running-on (reading_with x) s r st clear at count passed here (at + 1) lands inside) in
-            let one : pairs_of (passing x) (drop at s) ≡ 1 + pairs_of (passing x) (drop (at + 1) s) = rw (add-one, one-pair (passing x) s at (omega arith), rw add-one at t) in
+            let on = rw q.counts at (running_on (reading_with x) s r st clear at count passed here (at + 1) lands inside) in
+            let one : pairs_of (passing x) (drop at s) ≡ 1 + pairs_of (passing x) (drop (at + 1) s) = rw (add-one, one_pair (passing x) s at (omega arith), rw add-one at t) in
             let rest = pairs_past (at + 1) inside (hit_ends at inside equal t) in
             let no_digit : digits_of x.radix (drop at s) ≡ 0 + digits_of x.radix (drop (at + 1) s) = digits_from_lem x.radix s at (omega arith) ∙ rw (equal, q.apart) in
             told_so (passed + (at + 1 - at) + pairs_of (passing x) (drop (at + 1 + 1) s)) _ (cond (true && d) (count + 1) count + digits_of x.radix (drop (at + 1 + 1) s)) _
@@ -194,7 +194,7 @@ module _ (x : Syntax) (r : Reader) (s : List ℕ) (q : Countable x r s) where
           go : (t : Bool) → eqb (get_or s at 0) x.separator ≡ t → Tells at count passed
           go false t =
               let differ = eqb-false (get_or s at 0) x.separator t in
-              takes_here h (stays-on-other x s (eqb count 0) at h (no_separator x.separator (get_or s at 0) differ)) (pairs_past at h differ)
+              takes_here h (stays_on_other x s (eqb count 0) at h (no_separator x.separator (get_or s at 0) differ)) (pairs_past at h differ)
           go true t =
               let equal = eqb-true (get_or s at 0) x.separator t in
               let inside = not_last h equal in
@@ -202,7 +202,7 @@ module _ (x : Syntax) (r : Reader) (s : List ℕ) (q : Countable x r s) where
                 judged : (inside : at + 1 < length s) (equal : get_or s at 0 ≡ x.separator) (u : Bool) → matches_of (passing x) (get_or s at 0) (get_or s (at + 1) 0) ≡ u → Tells at count passed
                 judged inside equal true u = takes_next inside equal u
                 judged inside equal false u =
-                    let none : pairs_of (passing x) (drop at s) ≡ pairs_of (passing x) (drop (at + 1) s) = rw (add-one, one-pair (passing x) s at (omega arith), rw add-one at u) (omega arith) in
+                    let none : pairs_of (passing x) (drop at s) ≡ pairs_of (passing x) (drop (at + 1) s) = rw (add-one, one_pair (passing x) s at (omega arith), rw add-one at u) (omega arith) in
                     takes_here h (stays_here at inside equal (eqb count 0) (ne_eqb count 0 (λ z. omega arith)) u) none
 
     told_from : (n at count passed : ℕ) → length s ≤ at + n → 0 < count → Running (reading_with x) s r st at count passed → Tells at count passed
@@ -218,7 +218,7 @@ module _ (x : Syntax) (r : Reader) (s : List ℕ) (q : Countable x r s) where
     unfolding reading_with
     told_whole = go (ltb 0 (length s)) refl where
       begun : Running (reading_with x) s r st 0 0 0
-      begun = rw (sym (fresh_count f r)) at (running-starts (reading_with x) s r st clear)
+      begun = rw (sym (fresh_count f r)) at (running_starts (reading_with x) s r st clear)
 
       go : (t : Bool) → ltb 0 (length s) ≡ t → next_all_of (reading_with x) s st r ≡ finish (pairs_of (passing x) s) (digits_of x.radix s)
       go false t = told_so _ _ _ _ (omega arith) (omega arith) (at_end 0 0 0 (ltb-false 0 (length s) t) begun)
@@ -226,11 +226,11 @@ module _ (x : Syntax) (r : Reader) (s : List ℕ) (q : Countable x r s) where
           let h = ltb-true 0 (length s) t in
           let digit = o.begins h in
           let differ = digit_is_other (get_or s 0 0) digit in
-          let stays = stays-on-other x s (eqb 0 0) 0 h (no_separator x.separator (get_or s 0 0) differ) in
-          let on = rw (q.counts, digit) at (running-on (reading_with x) s r st clear 0 0 0 begun 0 stays h) in
+          let stays = stays_on_other x s (eqb 0 0) 0 h (no_separator x.separator (get_or s 0 0) differ) in
+          let on = rw (q.counts, digit) at (running_on (reading_with x) s r st clear 0 0 0 begun 0 stays h) in
           let past = pairs_past 0 h differ in
           let first : digits_of x.radix s ≡ 1 + digits_of x.radix (drop 1 s) = digits_from_lem x.radix s 0 h ∙ rw digit in
           told_so _ _ _ _ (omega arith) (omega arith) (told_from (length s) 1 1 0 (omega arith) (omega arith) on)
 
-    pub ordinary-told : totals_of r (next_all_of (reading_with x) s st r) ≡ ordinary_totals x s
-    ordinary-told = rw (told_whole, counted_tells st r (length s) (digits_of x.radix s) (and_right (has_any_flag x.flags) (is_counted r) q.counts))
+    pub ordinary_told : totals_of r (next_all_of (reading_with x) s st r) ≡ ordinary_totals x s
+    ordinary_told = rw (told_whole, counted_tells st r (length s) (digits_of x.radix s) (and_right (has_any_flag x.flags) (is_counted r) q.counts))

@@ -16,8 +16,8 @@ use Rattle.reader.specs.Column.{part_from, bound_of, no_totals, add_totals, cell
 use Rattle.reader.specs.Code.OrdinaryCells.{Countable, Ordinary, Stretch, passing, digits_of, ordinary_totals}
 use Rattle.reader.proofs.passing.Places.{is_separator_lem}
 use Rattle.reader.proofs.pairs.Counts.{at_most_one, pairs_below}
-use Rattle.reader.proofs.column.OrdinaryCell.{ordinary-told}
-use Rattle.reader.proofs.column.Cells.{part_length, part-byte}
+use Rattle.reader.proofs.column.OrdinaryCell.{ordinary_told}
+use Rattle.reader.proofs.column.Cells.{part_length, part_byte}
 
 -- a part, and the part behind it
 pub parts_join : (s : List ℕ) (start mid end : ℕ) → start ≤ mid → mid ≤ end → part_from s start end ≡ part_from s start mid ++ part_from s mid end
@@ -38,8 +38,8 @@ countable_part x r s start end h k q =
           let size = part_length s start end h k in
           let next : start + (i + 1) ≡ start + i + 1 = omega arith in
           q.single c (start + i) (omega arith)
-          (sym (part-byte s start end h k i (omega arith)) ∙ first)
-          (rw next at (sym (part-byte s start end h k (i + 1) (omega arith)) ∙ second));
+          (sym (part_byte s start end h k i (omega arith)) ∙ first)
+          (rw next at (sym (part_byte s start end h k (i + 1) (omega arith)) ∙ second));
     }
 
 digits_join : (radix : ℕ) (a b : List ℕ) → digits_of radix (a ++ b) ≡ digits_of radix a + digits_of radix b
@@ -100,7 +100,7 @@ ordinary_cell : (x : Syntax) (r : Reader) (s : List ℕ) (f : Format) (start end
     → cell_totals (reading_with x) f r (part_from s start end) ≡ ordinary_totals x (part_from s start end)
 unfolding reading_with
 ordinary_cell x r s f start end h k q ordinary clear =
-    ordinary-told x r (part_from s start end) (countable_part x r s start end h k q) f ordinary (refused_alike x s (part_from s start end) f r clear)
+    ordinary_told x r (part_from s start end) (countable_part x r s start end h k q) f ordinary (refused_alike x s (part_from s start end) f r clear)
 
 -- the next cell of a column, and the rest
 pub column_at : (m : Reading) (f : Format) (r : Reader) (s ends : List ℕ) (k at : ℕ) → k < length ends
@@ -122,8 +122,8 @@ pub record Walked (x : Syntax) (s ends : List ℕ) (quick : Bool) (cell start k 
       ≡ add_totals (ordinary_totals x (part_from s start at)) (column_from (reading_with x) f r s at (drop k ends))
 
 module _ (x : Syntax) (s ends : List ℕ) (quick : Bool) (cell start : ℕ) where
-  pub walk-starts : cell ≤ length ends → start ≤ length s → Walked x s ends quick cell start cell start
-  walk-starts h l =
+  pub walk_starts : cell ≤ length ends → start ≤ length s → Walked x s ends quick cell start cell start
+  walk_starts h l =
       record {
         onward = omega arith;
         cells = h;
@@ -137,9 +137,9 @@ module _ (x : Syntax) (s ends : List ℕ) (quick : Bool) (cell start : ℕ) wher
             let empty : start - start ≡ 0 = omega arith in
             rw empty (same_totals c (add_totals no_totals c) (omega arith) (omega arith) (omega arith))
 
-  pub walk-goes-on : (k at end : ℕ) → Walked x s ends quick cell start k at → k < length ends → end ≡ bound_of s at (get_or ends k 0)
+  pub walk_goes_on : (k at end : ℕ) → Walked x s ends quick cell start k at → k < length ends → end ≡ bound_of s at (get_or ends k 0)
       → Ordinary x (part_from s at end) → quick ≡ true → Walked x s ends quick cell start (k + 1) end
-  walk-goes-on k at end here more bound ordinary so =
+  walk_goes_on k at end here more bound ordinary so =
       let ordered : at ≤ end = omega (arith, here.inside) in
       let within : end ≤ length s = omega arith in
       record {
@@ -155,7 +155,7 @@ module _ (x : Syntax) (s ends : List ℕ) (quick : Bool) (cell start : ℕ) wher
             let size = part_length s at end ordered within in
             let last = ordinary.ends (omega arith) in
             let place : at + (length (part_from s at end) - 1) ≡ end - 1 = omega arith in
-            rw place at (rw (part-byte s at end ordered within (length (part_from s at end) - 1) (omega arith)) at last)
+            rw place at (rw (part_byte s at end ordered within (length (part_from s at end) - 1) (omega arith)) at last)
 
         plain_end : (ordered : at ≤ end) (within : end ≤ length s) → start < end → is_separator x.separator (get_or s (end - 1) 0) ≡ false
         plain_end ordered within p = go (ltb at end) refl where
@@ -167,7 +167,7 @@ module _ (x : Syntax) (s ends : List ℕ) (quick : Bool) (cell start : ℕ) wher
         plain_part positive p =
             let size = part_length s start at here.ordered here.inside in
             let place : start + (length (part_from s start at) - 1) ≡ at - 1 = omega (arith, here.ordered) in
-            rw (part-byte s start at here.ordered here.inside (length (part_from s start at) - 1) (omega arith), place) (here.plain (omega arith))
+            rw (part_byte s start at here.ordered here.inside (length (part_from s start at) - 1) (omega arith), place) (here.plain (omega arith))
 
         totals_on : (ordered : at ≤ end) (within : end ≤ length s) (r : Reader) (f : Format) → (quick ≡ true → Countable x r s) → refusal_with x.flags s (fresh_of f) r ≡ 0
             → column_from (reading_with x) f r s start (drop cell ends)

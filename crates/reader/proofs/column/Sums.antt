@@ -1,5 +1,5 @@
 -- The sums over a column's cells, as its loop adds them: stretch by stretch or cell by cell; and the call's outcome. Assumes nothing.
-use Rattle.std.proofs.Common.{◌≡◌, ℕ, ◌+◌, ◌-◌, ◌<◌, ◌≤◌, List, [], length, get_or, drop, sym, ap, ◌∙◌, arith, drop_of_length-le}
+use Rattle.std.proofs.Common.{◌≡◌, ℕ, ◌+◌, ◌<◌, ◌≤◌, List, [], length, get_or, drop, sym, ap, ◌∙◌, arith, drop_of_length-le}
 use Rattle.word.specs.declared.format_flags.Format.{Format}
 use Rattle.reader.specs.declared.state.Reader.{Reader}
 use Rattle.reader.specs.declared.state.Refusal.{Refusal}
@@ -29,8 +29,8 @@ pub record Summed (x : Syntax) (f : Format) (r : Reader) (s ends : List ℕ) (su
   pub totals : column_from (reading_with x) f r s 0 ends ≡ add_totals sums (column_from (reading_with x) f r s at (drop cell ends))
 
 module _ (x : Syntax) (f : Format) (r : Reader) (s ends : List ℕ) where
-  pub sums-start : Summed x f r s ends no_totals 0 0
-  sums-start =
+  pub sums_start : Summed x f r s ends no_totals 0 0
+  sums_start =
       let c = column_from (reading_with x) f r s 0 ends in
       record {
         cells = omega arith;
@@ -42,9 +42,9 @@ module _ (x : Syntax) (f : Format) (r : Reader) (s ends : List ℕ) where
 
   module _ (sums : Totals) (cell at : ℕ) (here : Summed x f r s ends sums cell at) where
     -- a stretch of ordinary cells more
-    pub sums-stretch : (to : Reached) → Stretch x r s ends cell at to → refusal_with x.flags s (fresh_of f) r ≡ 0
+    pub sums_stretch : (to : Reached) → Stretch x r s ends cell at to → refusal_with x.flags s (fresh_of f) r ≡ 0
         → Summed x f r s ends (add_totals sums (ordinary_totals x (part_from s at to.at))) to.cell to.at
-    sums-stretch to stretch clear =
+    sums_stretch to stretch clear =
         let size = stretch_size x (part_from s at to.at) in
         let long = part_length s at to.at stretch.ordered stretch.inside in
         record {
@@ -59,11 +59,11 @@ module _ (x : Syntax) (f : Format) (r : Reader) (s ends : List ℕ) where
         }
 
     -- one cell more
-    pub sums-cell : (end : ℕ) (one : Totals) → cell < length ends → end ≡ bound_of s at (get_or ends cell 0)
+    pub sums_cell : (end : ℕ) (one : Totals) → cell < length ends → end ≡ bound_of s at (get_or ends cell 0)
         → one ≡ cell_totals (reading_with x) f r (part_from s at end)
         → one.taken + one.passed ≤ length (part_from s at end) → one.digits ≤ length (part_from s at end)
         → Summed x f r s ends (add_totals sums one) (cell + 1) end
-    sums-cell end one more bound known size digits =
+    sums_cell end one more bound known size digits =
         let ordered : at ≤ end = omega (arith, here.inside) in
         let within : end ≤ length s = omega arith in
         let long = part_length s at end ordered within in
@@ -83,20 +83,20 @@ module _ (x : Syntax) (f : Format) (r : Reader) (s ends : List ℕ) where
         }
 
     -- behind the last cell
-    pub sums-end : length ends ≤ cell → sums ≡ column_from (reading_with x) f r s 0 ends
+    pub sums_end : length ends ≤ cell → sums ≡ column_from (reading_with x) f r s 0 ends
     unfolding column_from
-    sums-end out =
+    sums_end out =
         let over : drop cell ends ≡ [] = drop_of_length-le ends out in
         sym (here.totals ∙ rw over (same_totals (add_totals sums no_totals) sums (omega arith) (omega arith) (omega arith)))
 
 -- the call's outcome: the sums, or its refusal
 module _ (m : Reading) (f : Format) (r : Reader) (s ends : List ℕ) where
-  pub column-read : (t : Totals) → refusal_with m.flags s (fresh_of f) r ≡ 0 → t ≡ column_from m f r s 0 ends
+  pub column_read : (t : Totals) → refusal_with m.flags s (fresh_of f) r ≡ 0 → t ≡ column_from m f r s 0 ends
       → ◌≡◌ {A = ColumnOutcome} (record { refusal = 0; totals = t }) (column_of m f r s ends)
   unfolding column_of
-  column-read t clear sums = rw (clear, sums)
+  column_read t clear sums = rw (clear, sums)
 
-  pub column-refused : (e : Refusal) → number_of e ≡ refusal_with m.flags s (fresh_of f) r
+  pub column_refused : (e : Refusal) → number_of e ≡ refusal_with m.flags s (fresh_of f) r
       → ◌≡◌ {A = ColumnOutcome} (record { refusal = number_of e; totals = no_totals }) (column_of m f r s ends)
   unfolding column_of
-  column-refused e number = rw (sym number, refusal_tells e)
+  column_refused e number = rw (sym number, refusal_tells e)

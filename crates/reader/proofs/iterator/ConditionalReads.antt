@@ -9,18 +9,18 @@ use Rattle.reader.specs.Answer.{Outcome}
 use Rattle.reader.specs.Calls.{peek_of, read_taken, read_declined, read_byte_if, read_if_of, read_of, refusal_of, peeked}
 use Rattle.reader.specs.Place.{byte_at}
 use Rattle.reader.specs.State.{count_of}
-use Rattle.reader.proofs.passing.Places.{none_there, byte-here, no_byte}
+use Rattle.reader.proofs.passing.Places.{none_there, byte_here, no_byte}
 
 module _ (m : Reading) (s : List ℕ) (st : State) (r : Reader) where
   abbrev seen : Outcome
   seen = peek_of m s st r
 
   -- it takes the byte that a peek sees, or declines it, or, where a peek sees none, answers what the peek answers
-  pub read-cases : (wanted : ℕ → Bool) (P : Outcome → Type 0)
+  pub read_cases : (wanted : ℕ → Bool) (P : Outcome → Type 0)
       → ((b : ℕ) → (peek_of m s st r).byte ≡ some b → P (read_taken (peek_of m s st r) b)) → P (read_declined (peek_of m s st r)) → ((peek_of m s st r).byte ≡ none → P (peek_of m s st r))
       → P (read_if_of m s st r wanted)
   unfolding read_if_of
-  read-cases wanted P takes declines ends = go seen.byte refl where
+  read_cases wanted P takes declines ends = go seen.byte refl where
     asked : (b : ℕ) → seen.byte ≡ some b → (t : Bool) → wanted b ≡ t → P (read_byte_if wanted seen (some b))
     asked b e true t = rw t (takes b e)
     asked b e false t = rw t declines
@@ -35,7 +35,7 @@ module _ (s : List ℕ) (bytes : (i : ℕ) → i < length s → get_or s i 0 < 2
     go : (t : Bool) → ltb k (length s) ≡ t → b < 256
     go true t =
         let h = ltb-true k (length s) t in
-        let same : get_or s k 0 ≡ b = cc (byte-here s k h) in
+        let same : get_or s k 0 ≡ b = cc (byte_here s k h) in
         rw same at (bytes k h)
     go false t =
         absurd (none_there b (sym (no_byte s k (ltb-false k (length s) t)) ∙ e))
@@ -56,5 +56,5 @@ module _ (s : List ℕ) (bytes : (i : ℕ) → i < length s → get_or s i 0 < 2
     unfolding read_if_of
     same_outcome m st r = same_read (peek_of m s st r) (peek_of m s st r).byte (seen_small m st r)
 
-    pub reads-alike : (m : Reading) (st : State) (r : Reader) → read_of m s st r f ≡ read_of m s st r g
-    reads-alike m st r = ap (λ (o : Outcome). record { outcome = o; seen = (peek_of m s st r).byte }) (same_outcome m st r)
+    pub reads_alike : (m : Reading) (st : State) (r : Reader) → read_of m s st r f ≡ read_of m s st r g
+    reads_alike m st r = ap (λ (o : Outcome). record { outcome = o; seen = (peek_of m s st r).byte }) (same_outcome m st r)

@@ -43,9 +43,9 @@ module _ (wanted : ℕ → Bool) where
     by_peek p peeks = sym (ap case_by peeks) ∙ by_seen p.report.taken p.report.passed p.state p.report.seen
 
     -- Of the answers that the contracts of `read_if` and `peek` promise from one state: the read's is made of the peek's.
-    pub read-by-peek : (a : ReadAnswer) (p : Peeked) → read_outcome_of a ≡ read_of m s st r wanted → peek_outcome_of p ≡ peek_of m s st r
+    pub read_by_peek : (a : ReadAnswer) (p : Peeked) → read_outcome_of a ≡ read_of m s st r wanted → peek_outcome_of p ≡ peek_of m s st r
         → a.report.read ≡ way_of wanted p.report.seen
-    read-by-peek a p reads peeks =
+    read_by_peek a p reads peeks =
         sym (read_back a.report.read)
         ∙ ap (λ (o : ReadOutcome). read_from o.outcome.refusal o.outcome.byte o.seen) reads
         ∙ by_peek p peeks

@@ -11,13 +11,13 @@ use Rattle.reader.specs.State.{count_of}
 use Rattle.reader.specs.Answer.{Outcome}
 use Rattle.reader.specs.Calls.{peek_of, read_if_of}
 use Rattle.reader.specs.ZeroSkip.{skip_refusal, is_zero, zero_read_of, skipped, skip_zeros_of}
-use Rattle.reader.proofs.passing.Places.{no_separator, byte-here, no_byte}
-use Rattle.reader.proofs.passing.Landings.{landing_of, stays-on-other}
+use Rattle.reader.proofs.passing.Places.{no_separator, byte_here, no_byte}
+use Rattle.reader.proofs.passing.Landings.{landing_of, stays_on_other}
 use Rattle.reader.proofs.state.Refusals.{skip_within, skip_admits}
-use Rattle.reader.proofs.Repeats.{Repeating, repeating-starts, repeating-ends, repeating-goes-on}
+use Rattle.reader.proofs.Repeats.{Repeating, repeating_starts, repeating_ends, repeating_goes_on}
 use Rattle.reader.proofs.state.Updates.{state_at, own_count_lem, at_cursor, past_byte, counts_one, counted_tells}
-use Rattle.reader.proofs.skip.LoopState.{Standing, standing-starts, standing-counts, standing_on, peeks-at}
-use Rattle.reader.proofs.iterator.Zeros.{zero_takes_one, skip-admitted}
+use Rattle.reader.proofs.skip.LoopState.{Standing, standing_starts, standing_counts, standing_on, peeks_at}
+use Rattle.reader.proofs.iterator.Zeros.{zero_takes_one, skip_admitted}
 use Rattle.reader.proofs.Booleans.{contradicts}
 
 -- there is a byte at the place, and it is `0`
@@ -41,7 +41,7 @@ plain_zero x s at other zero =
     let b : get_or s at 0 ≡ 48 = eqb-true (get_or s at 0) 48 there.1 in
     record {
       zero = zero;
-      stays = λ is_first. stays-on-other x s is_first at there.0 (no_separator x.separator (get_or s at 0) (λ q. eqb-false x.separator 48 other (sym q ∙ b)));
+      stays = λ is_first. stays_on_other x s is_first at there.0 (no_separator x.separator (get_or s at 0) (λ q. eqb-false x.separator 48 other (sym q ∙ b)));
     }
 
 module _ (m : Reading) (s : List ℕ) (r : Reader) (st : State) where
@@ -51,24 +51,24 @@ module _ (m : Reading) (s : List ℕ) (r : Reader) (st : State) where
     pub stands : Standing s r st at count
 
   -- what is taken and passed lies before the place
-  pub skipping-sums : (at count taken passed : ℕ) → Skipping at count taken passed → taken + passed ≤ at
-  skipping-sums at count taken passed here = omega (arith, here.so_far.moves, at_cursor st r at count)
+  pub skipping_sums : (at count taken passed : ℕ) → Skipping at count taken passed → taken + passed ≤ at
+  skipping_sums at count taken passed here = omega (arith, here.so_far.moves, at_cursor st r at count)
 
   -- where a zero is taken, there is room for one more
-  pub skipping-room : (at count taken passed : ℕ) → Skipping at count taken passed → (place : ℕ) → at ≤ place → zero_at s place ≡ true
+  pub skipping_room : (at count taken passed : ℕ) → Skipping at count taken passed → (place : ℕ) → at ≤ place → zero_at s place ≡ true
       → (place < length s) × (count < length s) × (taken < length s)
-  skipping-room at count taken passed here place on t =
+  skipping_room at count taken passed here place on t =
       let inside = (zero_there s place t).0 in
-      let sums = skipping-sums at count taken passed here in
-      let counts = standing-counts s r st at count here.stands in
+      let sums = skipping_sums at count taken passed here in
+      let counts = standing_counts s r st at count here.stands in
       (inside, omega arith, omega arith)
 
 module _ (m : Reading) (s : List ℕ) (r : Reader) (st : State) (clear : skip_refusal m.flags s st r ≡ 0) where
-  pub skipping-starts : Skipping m s r st st.cursor (count_of st r) 0 0
-  skipping-starts =
+  pub skipping_starts : Skipping m s r st st.cursor (count_of st r) 0 0
+  skipping_starts =
       record {
-        so_far = rw (own_count_lem st r) (repeating-starts s (zero_read_of m s r) st);
-        stands = standing-starts s r st (skip_within m.flags s st r clear);
+        so_far = rw (own_count_lem st r) (repeating_starts s (zero_read_of m s r) st);
+        stands = standing_starts s r st (skip_within m.flags s st r clear);
       }
 
   module _ (at count taken passed : ℕ) (here : Skipping m s r st at count taken passed) where
@@ -77,14 +77,14 @@ module _ (m : Reading) (s : List ℕ) (r : Reader) (st : State) (clear : skip_re
 
     module _ (place : ℕ) (lands : place ≡ at + passed_at m s (eqb count 0) at) where
       seen : peek_of m s now r ≡ record { refusal = 0; byte = byte_at s place; taken = 0; passed = place - at; state = state_at st r place count }
-      seen = peeks-at s r st at count here.stands m (skip_admits m.flags s st r clear).1 place lands
+      seen = peeks_at s r st at count here.stands m (skip_admits m.flags s st r clear).1 place lands
 
       takes_zero : zero_at s place ≡ true → zero_read_of m s r now
           ≡ record { refusal = 0; byte = some (get_or s place 0); taken = 1; passed = place - at; state = state_at st r (place + 1) (count + 1) }
       unfolding zero_read_of read_if_of
       takes_zero t =
           let zero = zero_there s place t in
-          rw (seen, byte-here s place zero.0, zero.1, past_byte st r place count, counts_one st r (place + 1) count)
+          rw (seen, byte_here s place zero.0, zero.1, past_byte st r place count, counts_one st r (place + 1) count)
 
       -- a read declines a byte that is no `0`, and the end
       declines : zero_at s place ≡ false → zero_read_of m s r now
@@ -95,15 +95,15 @@ module _ (m : Reading) (s : List ℕ) (r : Reader) (st : State) (clear : skip_re
             ≡ record { refusal = 0; byte = none; taken = 0; passed = place - at; state = state_at st r place count }
         go true e =
             let other : is_zero (get_or s place 0) ≡ false = rw e at t in
-            rw (seen, byte-here s place (ltb-true place (length s) e), other)
+            rw (seen, byte_here s place (ltb-true place (length s) e), other)
         go false e = rw (seen, no_byte s place (ltb-false place (length s) e))
 
-      pub skipping-on : zero_at s place ≡ true → Skipping m s r st (place + 1) (count + 1) (taken + 1) (passed + (place - at))
-      skipping-on t =
+      pub skipping_on : zero_at s place ≡ true → Skipping m s r st (place + 1) (count + 1) (taken + 1) (passed + (place - at))
+      skipping_on t =
           let b = get_or s place 0 in
           let read = takes_zero t in
           let byte = ap (λ (o : Outcome). o.byte) read in
-          let on = repeating-goes-on s (zero_read_of m s r) st taken passed now here.so_far b byte (zero_takes_one m s now r b byte) in
+          let on = repeating_goes_on s (zero_read_of m s r) st taken passed now here.so_far b byte (zero_takes_one m s now r b byte) in
           record {
             so_far = rw read at on;
             stands =
@@ -112,13 +112,13 @@ module _ (m : Reading) (s : List ℕ) (r : Reader) (st : State) (clear : skip_re
           }
 
       -- where a read declines the skip is over
-      pub skipping-over : zero_at s place ≡ false
+      pub skipping_over : zero_at s place ≡ false
           → record { refusal = 0; zeros = some taken; taken = taken; passed = passed + (place - at); state = state_at st r place count } ≡ skip_zeros_of m s st r
-      skipping-over t =
+      skipping_over t =
           let last = declines t in
-          let over = repeating-ends s (zero_read_of m s r) st taken passed now here.so_far (ap (λ (o : Outcome). o.byte) last) in
-          ap skipped (rw (last, add-zero taken) at over) ∙ skip-admitted m s st r clear
+          let over = repeating_ends s (zero_read_of m s r) st taken passed now here.so_far (ap (λ (o : Outcome). o.byte) last) in
+          ap skipped (rw (last, add-zero taken) at over) ∙ skip_admitted m s st r clear
 
     -- a turn that passes nothing
-    pub skipping-by-one : at ≡ at + passed_at m s (eqb count 0) at → zero_at s at ≡ true → Skipping m s r st (at + 1) (count + 1) (taken + 1) passed
-    skipping-by-one stays t = let none_passed : passed + (at - at) ≡ passed = omega arith in rw none_passed at (skipping-on at stays t)
+    pub skipping_by_one : at ≡ at + passed_at m s (eqb count 0) at → zero_at s at ≡ true → Skipping m s r st (at + 1) (count + 1) (taken + 1) passed
+    skipping_by_one stays t = let none_passed : passed + (at - at) ≡ passed = omega arith in rw none_passed at (skipping_on at stays t)

@@ -9,8 +9,8 @@ use Rattle.reader.specs.ZeroSkip.{skip_refusal}
 use Rattle.reader.proofs.Booleans.{and_left, and_right}
 use Rattle.reader.proofs.passing.Places.{is_separator_lem}
 use Rattle.reader.proofs.passing.Passed.{separator_is}
-use Rattle.reader.proofs.passing.RefusedRuns.{inside, begins, positive, refused-first, refused-next, refused-stays}
-use Rattle.reader.proofs.iterator.ZeroLoop.{zero_at, zero_there, Skipping, skipping-on, skipping-by-one}
+use Rattle.reader.proofs.passing.RefusedRuns.{inside, begins, positive, refused-first, refused_next, refused_stays}
+use Rattle.reader.proofs.iterator.ZeroLoop.{zero_at, zero_there, Skipping, skipping_on, skipping_by_one}
 
 module _
     (m : Reading)
@@ -33,8 +33,8 @@ module _
     read_one : (at k count taken : ℕ) → separator_run m.separator (drop at s) ≡ suc k → 0 < count → may_pass m s false at ≡ false
         → Skipping m s r st at count taken passed → Skipping m s r st (suc at) (count + 1) (taken + 1) passed
     read_one at k count taken e above refused here =
-        let stays : at ≡ at + passed_at m s (eqb count 0) at = rw (later count above) (refused-stays m s consecutive false at refused) in
-        rw add-one at (skipping-by-one m s r st clear at count taken passed here stays (zero_here at k e))
+        let stays : at ≡ at + passed_at m s (eqb count 0) at = rw (later count above) (refused_stays m s consecutive false at refused) in
+        rw add-one at (skipping_by_one m s r st clear at count taken passed here stays (zero_here at k e))
 
     read_rest : (k at count taken : ℕ) → separator_run m.separator (drop at s) ≡ suc k → 0 < count → may_pass m s false at ≡ false
         → Skipping m s r st at count taken passed → Skipping m s r st (at + suc k) (count + suc k) (taken + suc k) passed
@@ -46,11 +46,11 @@ module _
         let counts : count + suc (suc k) ≡ count + 1 + suc k = omega arith in
         let takes : taken + suc (suc k) ≡ taken + 1 + suc k = omega arith in
         rw (place, counts, takes)
-        (read_rest k (suc at) (count + 1) (taken + 1) (begins m.separator s at (suc k) e).1 (omega arith) (refused-next m s consecutive false at k e refused) (read_one at (suc k) count taken e above refused here))
+        (read_rest k (suc at) (count + 1) (taken + 1) (begins m.separator s at (suc k) e).1 (omega arith) (refused_next m s consecutive false at k e refused) (read_one at (suc k) count taken e above refused here))
 
-    pub run-read : (at k count taken : ℕ) → separator_run m.separator (drop at s) ≡ suc k → 0 < count → passed_at m s (eqb count 0) at ≡ 0
+    pub run_read : (at k count taken : ℕ) → separator_run m.separator (drop at s) ≡ suc k → 0 < count → passed_at m s (eqb count 0) at ≡ 0
         → Skipping m s r st at count taken passed → Skipping m s r st (at + suc k) (count + suc k) (taken + suc k) passed
-    run-read at k count taken e above refused here =
+    run_read at k count taken e above refused here =
         read_rest k at count taken e above (refused-first m s consecutive false at k e (rw (later count above) at refused)) here
 
 -- Where the reads come to behind a zero that is read: where it is refused to a reader that has counted, the rest of its run is read too.
@@ -64,7 +64,7 @@ module _
     (at count taken passed place : ℕ)
     (here : Skipping m s r st at count taken passed)
     (lands : place ≡ at + passed_at m s (eqb count 0) at)
-    (zero-read : zero_at s place ≡ true)
+    (zero_read : zero_at s place ≡ true)
   where
     abbrev refused_zero : Bool
     refused_zero = eqb (place - at) 0 && not (eqb count 0)
@@ -77,17 +77,17 @@ module _
         let stays : place ≡ at = omega (arith, none, lands) in
         let refused : passed_at m s (eqb count 0) at ≡ 0 = omega (arith, none, lands) in
         let nothing : passed + (place - at) ≡ passed = omega (arith, none) in
-        let there = zero_there s place zero-read in
+        let there = zero_there s place zero_read in
         let byte : get_or s at 0 ≡ m.separator = rw stays at (eqb-true (get_or s place 0) 48 there.1 ∙ sym is_zero) in
         let e : separator_run m.separator (drop at s) ≡ suc (separator_run m.separator (drop (suc at) s)) = rw (drop-cons s at 0 (omega (arith, stays, there.0)), is_separator_lem m.separator _ (omega (arith, is_zero)) byte) in
-        rw (nothing, stays, e) (run-read m s r st clear consecutive is_zero passed at _ count taken e above refused here)
+        rw (nothing, stays, e) (run_read m s r st clear consecutive is_zero passed at _ count taken e above refused here)
 
-    pub skipping-taken : (to : ℕ)
+    pub skipping_taken : (to : ℕ)
         → to ≡ place + cond (refused_zero && not (eqb m.separator 0)) (cond m.flags.consecutive (separator_run m.separator (drop place s)) 1) 1
         → Skipping m s r st to (count + (to - place)) (taken + (to - place)) (passed + (place - at))
-    skipping-taken to on = go (refused_zero && not (eqb m.separator 0)) m.flags.consecutive refl refl on where
+    skipping_taken to on = go (refused_zero && not (eqb m.separator 0)) m.flags.consecutive refl refl on where
       one : to ≡ place + 1 → Skipping m s r st to (count + (to - place)) (taken + (to - place)) (passed + (place - at))
-      one l = let step : to - place ≡ 1 = omega arith in rw (step, l) (skipping-on m s r st clear at count taken passed here place lands zero-read)
+      one l = let step : to - place ≡ 1 = omega arith in rw (step, l) (skipping_on m s r st clear at count taken passed here place lands zero_read)
 
       go : (t c : Bool) → (refused_zero && not (eqb m.separator 0)) ≡ t → m.flags.consecutive ≡ c
           → to ≡ place + cond t (cond c (separator_run m.separator (drop place s)) 1) 1

@@ -20,19 +20,19 @@ at_most_one false = omega arith
 
 module _ (p : Pairs) where
   -- one byte of a list counts or not, and the rest is counted from the next on
-  pub one-pair : (s : List ℕ) (j : ℕ) → suc j < length s
+  pub one_pair : (s : List ℕ) (j : ℕ) → suc j < length s
       → pairs_of p (drop j s) ≡ cond (matches_of p (get_or s j 0) (get_or s (suc j) 0)) 1 0 + pairs_of p (drop (suc j) s)
-  one-pair [] j h = absurd (omega arith)
-  one-pair (b ∷ []) j h = absurd (omega arith)
-  one-pair (b ∷ n ∷ s) zero h = refl
-  one-pair (b ∷ n ∷ s) (suc j) h = one-pair (n ∷ s) j (omega arith)
+  one_pair [] j h = absurd (omega arith)
+  one_pair (b ∷ []) j h = absurd (omega arith)
+  one_pair (b ∷ n ∷ s) zero h = refl
+  one_pair (b ∷ n ∷ s) (suc j) h = one_pair (n ∷ s) j (omega arith)
 
   -- the last byte makes no pair
-  pub no-pair : (s : List ℕ) (j : ℕ) → length s ≤ suc j → pairs_of p (drop j s) ≡ 0
-  no-pair [] j h = rw (drop-nil {A = ℕ} j)
-  no-pair (b ∷ []) zero h = refl
-  no-pair (b ∷ n ∷ s) zero h = absurd (omega arith)
-  no-pair (b ∷ s) (suc j) h = no-pair s j (omega arith)
+  pub no_pair : (s : List ℕ) (j : ℕ) → length s ≤ suc j → pairs_of p (drop j s) ≡ 0
+  no_pair [] j h = rw (drop-nil {A = ℕ} j)
+  no_pair (b ∷ []) zero h = refl
+  no_pair (b ∷ n ∷ s) zero h = absurd (omega arith)
+  no_pair (b ∷ s) (suc j) h = no_pair s j (omega arith)
 
   -- there are fewer pairs than bytes
   pub pairs_below : (s : List ℕ) → 0 < length s → pairs_of p s < length s
@@ -56,11 +56,11 @@ module _ (p : Pairs) (s : List ℕ) (i count : ℕ) (begun : 1 ≤ i) (same : co
   pair_turn h =
       let next : suc (i - 1) ≡ i = omega arith in
       let back : i + 1 - 1 ≡ i = omega arith in
-      rw back (omega (arith, rw next at (one-pair p s (i - 1) (omega arith))))
+      rw back (omega (arith, rw next at (one_pair p s (i - 1) (omega arith))))
 
   -- past the slice all are counted
   pub pairs_end : length s ≤ i → count ≡ pairs_of p s
-  pairs_end out = omega (arith, no-pair p s (i - 1) (omega arith))
+  pairs_end out = omega (arith, no_pair p s (i - 1) (omega arith))
 
 -- A part of a slice with 225 bytes, and so 224 pairs, of which `few` count.
 module _ (p : Pairs) (s : List ℕ) (from few : ℕ) (counted : few ≡ pairs_of p (take (from + 225 - from) (drop from s))) where
@@ -69,19 +69,19 @@ module _ (p : Pairs) (s : List ℕ) (from few : ℕ) (counted : few ≡ pairs_of
   counted_of_225 = let width : from + 225 - from ≡ 225 = omega arith in rw width at counted
 
   -- no more count than it has
-  pub part-most : from + 225 ≤ length s → few ≤ 224
-  part-most inside =
+  pub part_most : from + 225 ≤ length s → few ≤ 224
+  part_most inside =
       let size : length (take 225 (drop from s)) ≡ 225 = simp (length-take, length-drop) (omega arith) in
       omega (arith, counted_of_225, pairs_below p (take 225 (drop from s)) (omega arith))
 
   -- where the pairs before it are counted, those up to its last byte are then
-  pub part-turn : (count : ℕ) → count + pairs_of p (drop from s) ≡ pairs_of p s → count + few + pairs_of p (drop (from + 224) s) ≡ pairs_of p s
-  part-turn count same = omega (arith, counted_of_225, rw (drop-drop 224 from s) at (shared_byte p (drop from s) 224))
+  pub part_turn : (count : ℕ) → count + pairs_of p (drop from s) ≡ pairs_of p s → count + few + pairs_of p (drop (from + 224) s) ≡ pairs_of p s
+  part_turn count same = omega (arith, counted_of_225, rw (drop-drop 224 from s) at (shared_byte p (drop from s) 224))
 
 -- behind the last part, which goes to the slice's end, all are counted
-pub parts-end :
+pub parts_end :
     (p : Pairs) (s : List ℕ) (from few : ℕ) → few ≡ pairs_of p (take (length s - from) (drop from s))
     → (count : ℕ) → count + pairs_of p (drop from s) ≡ pairs_of p s → count + few ≡ pairs_of p s
-parts-end p s from few counted count same =
+parts_end p s from few counted count same =
     let to_end = take_all (length s - from) (drop from s) (simp length-drop (omega arith)) in
     omega (arith, rw to_end at counted)

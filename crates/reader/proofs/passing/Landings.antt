@@ -11,7 +11,7 @@ use Rattle.word.specs.Bits.{bit}
 use Rattle.reader.specs.Code.RuleWords.{code_of}
 use Rattle.reader.specs.Place.{is_separator, byte_at, after, first_other, separator_run, nearest}
 use Rattle.reader.specs.Reading.{reading_with, neighbour_of, previous, following, may_pass, passed_at}
-use Rattle.reader.proofs.passing.Places.{byte-here, no_byte, is_separator_lem, run_end}
+use Rattle.reader.proofs.passing.Places.{byte_here, no_byte, is_separator_lem, run_end}
 
 -- the neighbour of a place on one side, whose bytes these are, where it is wanted
 abbrev pub neighbour_where : Syntax → Bool → List ℕ → Neighbour
@@ -25,16 +25,16 @@ module _ (x : Syntax) (wanted : Bool) (bytes : List ℕ) (r : Neighbour) where
   unwanted t known = rw (not-true wanted t) known
 
   module _ (byte : Option ℕ) (t : not wanted ≡ false) (known : r ≡ neighbour_of (reading_with x) byte) where
-    pub nearest-other : x.flags.consecutive ≡ true → byte ≡ first_other x.separator bytes → r ≡ neighbour_where x wanted bytes
+    pub nearest_other : x.flags.consecutive ≡ true → byte ≡ first_other x.separator bytes → r ≡ neighbour_where x wanted bytes
     unfolding reading_with
-    nearest-other k e = rw (not-false wanted t) (known ∙ ap (neighbour_of (reading_with x)) (e ∙ rw k))
+    nearest_other k e = rw (not-false wanted t) (known ∙ ap (neighbour_of (reading_with x)) (e ∙ rw k))
 
-    pub nearest-byte : x.flags.consecutive ≡ false → byte ≡ head? bytes → r ≡ neighbour_where x wanted bytes
+    pub nearest_byte : x.flags.consecutive ≡ false → byte ≡ head? bytes → r ≡ neighbour_where x wanted bytes
     unfolding reading_with
-    nearest-byte k e = rw (not-false wanted t) (known ∙ ap (neighbour_of (reading_with x)) (e ∙ rw k))
+    nearest_byte k e = rw (not-false wanted t) (known ∙ ap (neighbour_of (reading_with x)) (e ∙ rw k))
 
 -- Once a reader has counted, its rule is the entry's answer for the neighbour behind.
-pub asked-behind :
+pub asked_behind :
     (x : Syntax) (s : List ℕ) (at w place : ℕ) (next : Neighbour) (may : Bool)
     → ((p n : Neighbour) → bit w (code_of n) ≡ rule_of x.flags false p n)
     → next ≡ neighbour_of (reading_with x) (byte_at s place)
@@ -42,7 +42,7 @@ pub asked-behind :
     → may ≡ bit w (code_of next)
     → may ≡ rule_of x.flags false (previous (reading_with x) s at) (following (reading_with x) s at)
 unfolding reading_with
-asked-behind x s at w place next may entry known stands asked =
+asked_behind x s at w place next may entry known stands asked =
     asked
     ∙ entry (previous (reading_with x) s at) next
     ∙ ap (rule_of x.flags false (previous (reading_with x) s at)) (known ∙ ap (neighbour_of (reading_with x)) stands)
@@ -52,13 +52,13 @@ module _ (x : Syntax) (s : List ℕ) (is_first : Bool) (at : ℕ) where
   abbrev pub landing_of : ℕ
   landing_of = at + passed_at (reading_with x) s is_first at
 
-  pub stays-at-end : length s ≤ at → at ≡ landing_of
+  pub stays_at_end : length s ≤ at → at ≡ landing_of
   unfolding passed_at may_pass
-  stays-at-end out = rw (no_byte s at out) (omega arith)
+  stays_at_end out = rw (no_byte s at out) (omega arith)
 
-  pub stays-on-other : at < length s → is_separator x.separator (get_or s at 0) ≡ false → at ≡ landing_of
+  pub stays_on_other : at < length s → is_separator x.separator (get_or s at 0) ≡ false → at ≡ landing_of
   unfolding passed_at may_pass reading_with
-  stays-on-other h e = rw (byte-here s at h, e) (omega arith)
+  stays_on_other h e = rw (byte_here s at h, e) (omega arith)
 
   -- on a separator, what the rule says of it
   module _
@@ -71,20 +71,20 @@ module _ (x : Syntax) (s : List ℕ) (is_first : Bool) (at : ℕ) where
       passed :
           passed_at (reading_with x) s is_first at ≡ cond may (cond x.flags.consecutive (separator_run x.separator (drop at s)) 1) 0
       unfolding passed_at may_pass reading_with
-      passed = rw (byte-here s at h, is_separator_lem x.separator _ positive equal, asked)
+      passed = rw (byte_here s at h, is_separator_lem x.separator _ positive equal, asked)
 
-      pub stays-by-rule : not may ≡ true → at ≡ landing_of
-      stays-by-rule t = rw (passed, not-true may t) (omega arith)
+      pub stays_by_rule : not may ≡ true → at ≡ landing_of
+      stays_by_rule t = rw (passed, not-true may t) (omega arith)
 
-      pub passes-one : not may ≡ false → x.flags.consecutive ≡ false → at + 1 ≡ landing_of
-      passes-one t k = rw (passed, not-false may t, k)
+      pub passes_one : not may ≡ false → x.flags.consecutive ≡ false → at + 1 ≡ landing_of
+      passes_one t k = rw (passed, not-false may t, k)
 
       -- the same where the rule was asked of the byte behind alone
-      pub stays-behind : may ≡ false → at ≡ landing_of
-      stays-behind t = rw (passed, t) (omega arith)
+      pub stays_behind : may ≡ false → at ≡ landing_of
+      stays_behind t = rw (passed, t) (omega arith)
 
-      pub passes-behind : (r : ℕ) → may ≡ true → r ≡ at + cond x.flags.consecutive (separator_run x.separator (drop at s)) 1 → r ≡ landing_of
-      passes-behind r t e = rw (passed, t) e
+      pub passes_behind : (r : ℕ) → may ≡ true → r ≡ at + cond x.flags.consecutive (separator_run x.separator (drop at s)) 1 → r ≡ landing_of
+      passes_behind r t e = rw (passed, t) e
 
-      pub passes-run : (r : ℕ) → not may ≡ false → x.flags.consecutive ≡ true → r ≡ run_end x.separator s at → r ≡ landing_of
-      passes-run r t k e = rw (passed, not-false may t, k) e
+      pub passes_run : (r : ℕ) → not may ≡ false → x.flags.consecutive ≡ true → r ≡ run_end x.separator s at → r ≡ landing_of
+      passes_run r t k e = rw (passed, not-false may t, k) e

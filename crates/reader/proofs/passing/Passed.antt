@@ -1,10 +1,10 @@
 -- What a reader passes at a place, over any reading: separators only, within the buffer, and only where its rule lets it. The calls of
 -- skip and the byte tally stand on it. Assumes nothing.
-use Rattle.std.proofs.Common.{◌≡◌, ℕ, suc, ◌+◌, ◌-◌, ◌<◌, ◌≤◌, Bool, true, false, cond, not, eqb, List, [], ◌∷◌, length, get_or, take, drop, replicate, sym, refl, arith, length-drop, drop-cons, eqb-true}
+use Rattle.std.proofs.Common.{◌≡◌, ℕ, suc, ◌+◌, ◌<◌, ◌≤◌, Bool, true, false, cond, not, eqb, List, [], ◌∷◌, length, get_or, take, drop, replicate, sym, refl, arith, length-drop, drop-cons, eqb-true}
 use mathlib.Core.Option.{Option, some, none}
 use Rattle.reader.specs.Place.{is_separator, byte_at, separator_run, first_other}
 use Rattle.reader.specs.Reading.{Reading, may_pass, passed_at, passes_byte, previous, following}
-use Rattle.reader.proofs.passing.Places.{byte_inside, byte-here}
+use Rattle.reader.proofs.passing.Places.{byte_inside, byte_here}
 use Rattle.reader.proofs.Booleans.{and_left, and_right}
 
 pub run_fits : (separator : ℕ) (l : List ℕ) → separator_run separator l ≤ length l
@@ -23,9 +23,9 @@ module _ (m : Reading) (s : List ℕ) (is_first : Bool) (place : ℕ) where
     go none q h = absurd (let z : ◌≡◌ {A = ℕ} 0 1 = cc in omega arith)
     go (some b) q h = byte_inside s place b q
 
-  pub passed-fits : place ≤ length s → place + passed_at m s is_first place ≤ length s
+  pub passed_fits : place ≤ length s → place + passed_at m s is_first place ≤ length s
   unfolding passed_at
-  passed-fits h = go (may_pass m s is_first place) m.flags.consecutive refl refl where
+  passed_fits h = go (may_pass m s is_first place) m.flags.consecutive refl refl where
     go : (t c : Bool) → may_pass m s is_first place ≡ t → m.flags.consecutive ≡ c → place + passed_at m s is_first place ≤ length s
     go false c p q = rw p (omega arith)
     go true true p q = rw (p, q) (omega (arith, run_fits m.separator (drop place s), length-drop place s, one_fits p))
@@ -63,9 +63,9 @@ module _ (m : Reading) (s : List ℕ) (is_first : Bool) (place : ℕ) where
     pub separator : is_separator m.separator byte ≡ true
     pub rule : m.rule is_first (previous m s place) (following m s place) ≡ true
 
-  pub passes-here : may_pass m s is_first place ≡ true → PassesHere
+  pub passes_here : may_pass m s is_first place ≡ true → PassesHere
   unfolding may_pass
-  passes-here e = go (byte_at s place) refl e where
+  passes_here e = go (byte_at s place) refl e where
     go : (o : Option ℕ) → byte_at s place ≡ o → passes_byte m s is_first place o ≡ true → PassesHere
     go none q h = absurd (let z : ◌≡◌ {A = ℕ} 0 1 = cc in omega arith)
     go (some b) q h = record { byte = b; here = q; separator = and_left _ _ h; rule = and_right (is_separator m.separator b) _ h }
@@ -74,34 +74,34 @@ module _ (m : Reading) (s : List ℕ) (is_first : Bool) (place : ℕ) where
   unfolding passed_at
   passes_none e = rw e
 
-  pub passes-one : may_pass m s is_first place ≡ true → m.flags.consecutive ≡ false → passed_at m s is_first place ≡ 1
+  pub passes_one : may_pass m s is_first place ≡ true → m.flags.consecutive ≡ false → passed_at m s is_first place ≡ 1
   unfolding passed_at
-  passes-one e k = rw (e, k)
+  passes_one e k = rw (e, k)
 
-  pub passes-run : may_pass m s is_first place ≡ true → m.flags.consecutive ≡ true → passed_at m s is_first place ≡ separator_run m.separator (drop place s)
+  pub passes_run : may_pass m s is_first place ≡ true → m.flags.consecutive ≡ true → passed_at m s is_first place ≡ separator_run m.separator (drop place s)
   unfolding passed_at
-  passes-run e k = rw (e, k)
+  passes_run e k = rw (e, k)
 
   one_only : may_pass m s is_first place ≡ true → take 1 (drop place s) ≡ m.separator ∷ []
   one_only e =
-      let p = passes-here e in
+      let p = passes_here e in
       let h = byte_inside s place p.byte p.here in
-      let same : get_or s place 0 ≡ p.byte = cc (byte-here s place h, p.here) in
+      let same : get_or s place 0 ≡ p.byte = cc (byte_here s place h, p.here) in
       rw (drop-cons s place 0 h, same, separator_is m.separator p.byte p.separator)
 
   -- what is passed is separators only
-  pub passes-only : take (passed_at m s is_first place) (drop place s) ≡ replicate (passed_at m s is_first place) m.separator
-  passes-only = go (may_pass m s is_first place) m.flags.consecutive refl refl where
+  pub passes_only : take (passed_at m s is_first place) (drop place s) ≡ replicate (passed_at m s is_first place) m.separator
+  passes_only = go (may_pass m s is_first place) m.flags.consecutive refl refl where
     go :
         (t c : Bool) → may_pass m s is_first place ≡ t → m.flags.consecutive ≡ c
         → take (passed_at m s is_first place) (drop place s) ≡ replicate (passed_at m s is_first place) m.separator
     go false c e k = rw (passes_none e)
-    go true true e k = rw (passes-run e k) (run_only m.separator (drop place s))
-    go true false e k = rw (passes-one e k) (one_only e)
+    go true true e k = rw (passes_run e k) (run_only m.separator (drop place s))
+    go true false e k = rw (passes_one e k) (one_only e)
 
   -- and only where the rule lets the reader
-  pub passes-by-rule : 0 < passed_at m s is_first place → may_pass m s is_first place ≡ true
-  passes-by-rule = go (may_pass m s is_first place) refl where
+  pub passes_by_rule : 0 < passed_at m s is_first place → may_pass m s is_first place ≡ true
+  passes_by_rule = go (may_pass m s is_first place) refl where
     go : (t : Bool) → may_pass m s is_first place ≡ t → 0 < passed_at m s is_first place → may_pass m s is_first place ≡ true
     go false e h = absurd (omega (arith, passes_none e))
     go true e h = e

@@ -7,8 +7,8 @@ use Rattle.reader.proofs.Booleans.{and_false}
 
 -- the byte at an index
 module _ (s : List ℕ) (i : ℕ) where
-  pub byte-here : i < length s → byte_at s i ≡ some (get_or s i 0)
-  byte-here h = rw (drop-cons s i 0 h)
+  pub byte_here : i < length s → byte_at s i ≡ some (get_or s i 0)
+  byte_here h = rw (drop-cons s i 0 h)
 
   pub no_byte : length s ≤ i → byte_at s i ≡ none
   no_byte h = rw (drop_of_length-le s h)
@@ -50,11 +50,11 @@ module _ (s : List ℕ) (at i : ℕ) (small : length s < 2 ^ 64) (within : at �
   some_before : i < length s → before s at ≡ get_or s i 0 ∷ before s i
   some_before h = let inside : at ≡ i + 1 = omega arith in rw inside (before_next s i h)
 
-  pub byte-before : byte_at s i ≡ head? (before s at)
-  byte-before =
+  pub byte_before : byte_at s i ≡ head? (before s at)
+  byte_before =
       ⊎_elim
       (λ start. rw (no_byte s i (omega arith), none_before (omega arith)))
-      (λ inside. rw (byte-here s i (omega arith), some_before (omega arith)))
+      (λ inside. rw (byte_here s i (omega arith), some_before (omega arith)))
       (eq-zero-or-pos at)
 
 -- A search backwards for a byte that is no separator has come to the index i: from there it finds what it finds from the place `at`.
@@ -64,13 +64,13 @@ pub record Searching (separator : ℕ) (s : List ℕ) (at i : ℕ) : Type 0 wher
   pub fits : i < 2 ^ 64
 
 module _ (separator : ℕ) (s : List ℕ) (at i : ℕ) (small : length s < 2 ^ 64) where
-  pub search-starts : at ≤ length s → i ≡ index_before at → Searching separator s at i
-  search-starts h wraps =
+  pub search_starts : at ≤ length s → i ≡ index_before at → Searching separator s at i
+  search_starts h wraps =
       let back : place_after i ≡ at = omega arith in record { same = rw back; within = omega arith; fits = omega arith }
 
   module _ (here : Searching separator s at i) where
-    pub search-ends : length s ≤ i → byte_at s i ≡ first_other separator (before s at)
-    search-ends out =
+    pub search_ends : length s ≤ i → byte_at s i ≡ first_other separator (before s at)
+    search_ends out =
         rw (no_byte s i out) (rw (none_before s (place_after i) i small here.within (omega arith) out) at here.same)
 
     -- one turn: what is found is this byte, or what is found from its place
@@ -80,12 +80,12 @@ module _ (separator : ℕ) (s : List ℕ) (at i : ℕ) (small : length s < 2 ^ 6
         ≡ first_other separator (before s at)
     turn h = rw (some_before s (place_after i) i small here.within (omega arith) h) at here.same
 
-    pub search-finds : i < length s → (get_or s i 0 ≡ separator → ⊥) → byte_at s i ≡ first_other separator (before s at)
-    search-finds h differ = rw (byte-here s i h) (rw (no_separator separator _ differ) at (turn h))
+    pub search_finds : i < length s → (get_or s i 0 ≡ separator → ⊥) → byte_at s i ≡ first_other separator (before s at)
+    search_finds h differ = rw (byte_here s i h) (rw (no_separator separator _ differ) at (turn h))
 
-    pub search-goes-on :
+    pub search_goes_on :
         (j : ℕ) → i < length s → 0 < separator → get_or s i 0 ≡ separator → j ≡ index_before i → Searching separator s at j
-    search-goes-on j h positive equal wraps =
+    search_goes_on j h positive equal wraps =
         let back : place_after j ≡ i = omega arith in
         record {
           same = rw back (rw (is_separator_lem separator _ positive equal) at (turn h));
@@ -110,17 +110,17 @@ run_head separator (b ∷ l) = go (is_separator separator b) refl (run_head sepa
 
 -- a search forwards for a byte that is no separator: what it finds, and its turns
 module _ (separator : ℕ) (s : List ℕ) (i : ℕ) where
-  pub run-byte : byte_at s (run_end separator s i) ≡ first_other separator (drop i s)
-  run-byte = rw (← drop-drop (separator_run separator (drop i s)) i s) (run_head separator (drop i s))
+  pub run_byte : byte_at s (run_end separator s i) ≡ first_other separator (drop i s)
+  run_byte = rw (← drop-drop (separator_run separator (drop i s)) i s) (run_head separator (drop i s))
 
   pub run_out : length s ≤ i → i ≡ run_end separator s i
   run_out out = rw (drop_of_length-le s out) (omega arith)
 
-  pub run-stops : i < length s → (get_or s i 0 ≡ separator → ⊥) → i ≡ run_end separator s i
-  run-stops h differ = rw (drop-cons s i 0 h, no_separator separator _ differ) (omega arith)
+  pub run_stops : i < length s → (get_or s i 0 ≡ separator → ⊥) → i ≡ run_end separator s i
+  run_stops h differ = rw (drop-cons s i 0 h, no_separator separator _ differ) (omega arith)
 
-  pub run-over : i < length s → 0 < separator → get_or s i 0 ≡ separator → run_end separator s (i + 1) ≡ run_end separator s i
-  run-over h positive same = rw (drop-cons s i 0 h, is_separator_lem separator _ positive same, add-one) (omega arith)
+  pub run_over : i < length s → 0 < separator → get_or s i 0 ≡ separator → run_end separator s (i + 1) ≡ run_end separator s i
+  run_over h positive same = rw (drop-cons s i 0 h, is_separator_lem separator _ positive same, add-one) (omega arith)
 
 -- no byte and a byte are not the same
 pub none_there : (b : ℕ) → ◌≡◌ {A = Option ℕ} none (some b) → ⊥

@@ -4,7 +4,7 @@ use Rattle.std.proofs.Common.{◌≡◌, ℕ, suc, ◌+◌, ◌<◌, Bool, true,
 use Rattle.reader.specs.Place.{is_separator, before, after, first_other, separator_run}
 use Rattle.reader.specs.Reading.{Reading, may_pass, passed_at}
 use Rattle.reader.proofs.Booleans.{contradicts}
-use Rattle.reader.proofs.passing.Places.{byte-here, before_next, run-over}
+use Rattle.reader.proofs.passing.Places.{byte_here, before_next, run_over}
 
 -- where a list begins with a separator there is a byte
 run_inside : (separator : ℕ) (l : List ℕ) (k : ℕ) → separator_run separator l ≡ suc k → 0 < length l
@@ -34,7 +34,7 @@ positive separator e = ⊎_elim (λ z. absurd (contradicts (rw (eq-eqb separator
 pub goes_on :
     (separator : ℕ) (run : Bool) (s : List ℕ) (at : ℕ) → at < length s → 0 < separator → get_or s at 0 ≡ separator
     → (to : ℕ) → to ≡ at + cond run (separator_run separator (drop at s)) 1 → at < to
-goes_on separator true s at h positive equal to e = omega (arith, e, run-over separator s at h positive equal)
+goes_on separator true s at h positive equal to e = omega (arith, e, run_over separator s at h positive equal)
 goes_on separator false s at h positive equal to e = omega (arith, e)
 
 module _ (m : Reading) (s : List ℕ) (consecutive : m.flags.consecutive ≡ true) (is_first : Bool) where
@@ -48,17 +48,17 @@ module _ (m : Reading) (s : List ℕ) (consecutive : m.flags.consecutive ≡ tru
 
     same_rule : may_pass m s is_first (suc i) ≡ may_pass m s is_first i
     unfolding may_pass
-    same_rule = rw (byte-here s (suc i) h, byte-here s i (omega arith), one, two, consecutive, same_before, same_after)
+    same_rule = rw (byte_here s (suc i) h, byte_here s i (omega arith), one, two, consecutive, same_before, same_after)
 
   pub refused-first : (at k : ℕ) → separator_run m.separator (drop at s) ≡ suc k → passed_at m s is_first at ≡ 0 → may_pass m s is_first at ≡ false
   unfolding passed_at
   refused-first at k e refused = none_passes (may_pass m s is_first at) m.flags.consecutive _ k consecutive e refused
 
-  pub refused-next : (at k : ℕ) → separator_run m.separator (drop at s) ≡ suc (suc k) → may_pass m s is_first at ≡ false → may_pass m s is_first (suc at) ≡ false
-  refused-next at k e refused =
+  pub refused_next : (at k : ℕ) → separator_run m.separator (drop at s) ≡ suc (suc k) → may_pass m s is_first at ≡ false → may_pass m s is_first (suc at) ≡ false
+  refused_next at k e refused =
       let rest = begins m.separator s at (suc k) e in
       rw (same_rule at (inside m.separator s (suc at) k rest.1) rest.0 (begins m.separator s (suc at) k rest.1).0) refused
 
-  pub refused-stays : (at : ℕ) → may_pass m s is_first at ≡ false → at ≡ at + passed_at m s is_first at
+  pub refused_stays : (at : ℕ) → may_pass m s is_first at ≡ false → at ≡ at + passed_at m s is_first at
   unfolding passed_at
-  refused-stays at refused = rw refused (omega arith)
+  refused_stays at refused = rw refused (omega arith)

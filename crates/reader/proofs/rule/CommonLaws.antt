@@ -31,23 +31,23 @@ all_free : T (every_case is_free)
 unfolding every every_cell every_pair every_case rule_of names_of
 all_free = tt
 
-absent-is-free :
+absent_is_free :
     (flags : Flags) (is_first : Bool) (p n : Neighbour) →
     rule_of flags is_first p n
     ≡ rule_of flags is_first (cond (names_of flags is_first).previous p absent) (cond (names_of flags is_first).next n absent)
-absent-is-free flags is_first p n = same _ _ (case_at is_free all_free flags is_first p n)
+absent_is_free flags is_first p n = same _ _ (case_at is_free all_free flags is_first p n)
 
 twice : (b : Bool) (p q r : Neighbour) → cond b (cond b p q) r ≡ cond b p r
 twice true p q r = refl
 twice false p q r = refl
 
 -- a neighbour that the cell does not name does not matter
-pub unnamed-is-free :
+pub unnamed_is_free :
     (flags : Flags) (is_first : Bool) (p n p' n' : Neighbour) →
     rule_of flags is_first p n
     ≡ rule_of flags is_first (cond (names_of flags is_first).previous p p') (cond (names_of flags is_first).next n n')
-unnamed-is-free flags is_first p n p' n' =
-    absent-is-free flags is_first p n ∙ sym (absent-is-free flags is_first _ _ ∙ rw (twice _ p p', twice _ n n'))
+unnamed_is_free flags is_first p n p' n' =
+    absent_is_free flags is_first p n ∙ sym (absent_is_free flags is_first _ _ ∙ rw (twice _ p p', twice _ n n'))
 
 -- once a reader has counted, the neighbour before does not matter
 abbrev looks_behind : Flags → Bool → Neighbour → Neighbour → Bool
@@ -72,9 +72,9 @@ if_so : (a b : Bool) → T (not a || beq b false) → a ≡ true → b ≡ false
 if_so true b t e = same b false t
 if_so false b t e = absurd (let z : ◌≡◌ {A = ℕ} 0 1 = cc in omega arith)
 
-pub never-holds :
+pub never_holds_lem :
     (flags : Flags) (is_first : Bool) (p n : Neighbour) → bit 0x00230023 (cell_of flags is_first) ≡ true → rule_of flags is_first p n ≡ false
-never-holds flags is_first p n = if_so _ _ (case_at never_holds all_never flags is_first p n)
+never_holds_lem flags is_first p n = if_so _ _ (case_at never_holds all_never flags is_first p n)
 
 -- a neighbour that is a separator, and so no digit
 abbrev pub a_separator : Neighbour

@@ -1,6 +1,6 @@
 -- The source's tables hold what the definitions say, in every case: tests that antt computes, and the laws that they give: for the
 -- functions of src/rule.rt. Assumes nothing.
-use Rattle.std.proofs.Common.{◌≡◌, ℕ, ◌+◌, ◌*◌, Bool, true, false, cond, not, ◌&&◌, T, eqb, sym, refl, ◌∙◌, eq-eqb}
+use Rattle.std.proofs.Common.{◌≡◌, ℕ, ◌+◌, ◌*◌, Bool, true, false, cond, ◌&&◌, T, eqb, sym, refl, ◌∙◌, eq-eqb}
 use mathlib.Core.Bool.{beq}
 use Rattle.word.specs.Bits.{bit}
 use Rattle.reader.specs.declared.rule.Flags.{Flags}
@@ -62,12 +62,12 @@ is_entry k word =
     every_cell (λ flags is_first. cond (eqb (cell_of flags is_first) k)
     (every_pair (λ p n. beq (bit word (8 * code_of p + code_of n)) (rule_of flags is_first p n))) true)
 
-pub entry-holds :
+pub entry_holds :
     (k word : ℕ) → T (is_entry k word) → {at : ℕ} → at ≡ k →
     (flags : Flags) (is_first : Bool) (p n : Neighbour) → at ≡ cell_of flags is_first →
     bit word (8 * code_of p + code_of n) ≡ rule_of flags is_first p n
 unfolding is_entry
-entry-holds k word t e flags is_first p n h =
+entry_holds k word t e flags is_first p n h =
     same _ _ (pair_at _ (rw (eq-eqb (cell_of flags is_first) k (sym h ∙ e)) at (cell_at _ t flags is_first)) p n)
 
 -- two masks: the cells that name the previous neighbour, and those that name the next
@@ -87,8 +87,8 @@ same_named_lem a b t =
 unfoldable pub are_names : ℕ → ℕ → Bool
 are_names previous next = every_cell (λ flags is_first. same_named (named_by previous next flags is_first) (names_of flags is_first))
 
-pub names-hold :
+pub names_hold :
     (previous next : ℕ) → T (are_names previous next) →
     (flags : Flags) (is_first : Bool) → named_by previous next flags is_first ≡ names_of flags is_first
 unfolding are_names
-names-hold previous next t flags is_first = same_named_lem _ _ (cell_at _ t flags is_first)
+names_hold previous next t flags is_first = same_named_lem _ _ (cell_at _ t flags is_first)

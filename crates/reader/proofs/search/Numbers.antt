@@ -1,6 +1,6 @@
 -- Digits as one number, over any base and any count: two such numbers are equal exactly when the digits are, and two side by side are the
 -- number of all their digits. For the search that compares eight bytes at once. Assumes nothing.
-use Rattle.std.proofs.Common.{◌≡◌, ℕ, zero, suc, ◌+◌, ◌*◌, ◌/◌, ◌%◌, ◌^◌, ◌<◌, ◌≤◌, List, [], ◌∷◌, ◌++◌, length, get_or, take, drop, sym, refl, ap, ◌∙◌, add_assoc, mod-eq_of_lt, mul_assoc, mul-le-mul_left, zero-add, mul-add, add-one, arith, length-append, drop-cons, drop-drop, take-add}
+use Rattle.std.proofs.Common.{◌≡◌, ℕ, ◌+◌, ◌*◌, ◌/◌, ◌%◌, ◌^◌, ◌<◌, ◌≤◌, List, [], ◌∷◌, ◌++◌, length, get_or, take, drop, sym, refl, ap, ◌∙◌, add_assoc, mod-eq_of_lt, mul_assoc, mul-le-mul_left, zero-add, mul-add, arith, length-append, drop-cons, drop-drop, take-add}
 use native.Mathlib.Nat.{pow-zero, pow-succ', add-mul-mod_self_left, add-mul-div_left, div-eq_of_lt}
 use Rattle.reader.specs.Code.Eights.{number_in, AllBelow, NumberOf, BytesAt}
 
@@ -28,8 +28,8 @@ module _ (base : ℕ) where
       rw (lowest, same_digits l m all.1 all'.1 (omega arith) rest)
 
   -- Two numbers of so many digits are equal exactly when the digits are.
-  pub equal-as-digits : (n : ℕ) (l m : List ℕ) (x y : ℕ) → NumberOf base n l x → NumberOf base n m y → (x ≡ y → l ≡ m) × (l ≡ m → x ≡ y)
-  equal-as-digits n l m x y of-l of-m = (
+  pub equal_as_digits : (n : ℕ) (l m : List ℕ) (x y : ℕ) → NumberOf base n l x → NumberOf base n m y → (x ≡ y → l ≡ m) × (l ≡ m → x ≡ y)
+  equal_as_digits n l m x y of-l of-m = (
     λ same. same_digits l m of-l.below of-m.below (of-l.count ∙ sym of-m.count) (sym of-l.number ∙ same ∙ of-m.number),
     λ same. of-l.number ∙ ap (number_in base) same ∙ sym of-m.number,
   )

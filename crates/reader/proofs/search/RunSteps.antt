@@ -32,11 +32,11 @@ module _ (separator : ℕ) (s : List ℕ) where
 
   -- one byte is a step's width too
   module _ (place : ℕ) (inside : place < length s) where
-    pub one-separator : get_or s place 0 ≡ separator → take 1 (drop place s) ≡ replicate 1 separator
-    one-separator same = rw (drop-cons s place 0 inside, same)
+    pub one_separator : get_or s place 0 ≡ separator → take 1 (drop place s) ≡ replicate 1 separator
+    one_separator same = rw (drop-cons s place 0 inside, same)
 
-    pub one-other : (get_or s place 0 ≡ separator → ⊥) → take 1 (drop place s) ≡ replicate 1 separator → ⊥
-    one-other differ same = differ (let cut : take 1 (drop place s) ≡ get_or s place 0 ∷ [] = rw (drop-cons s place 0 inside) in cc)
+    pub one_other : (get_or s place 0 ≡ separator → ⊥) → take 1 (drop place s) ≡ replicate 1 separator → ⊥
+    one_other differ same = differ (let cut : take 1 (drop place s) ≡ get_or s place 0 ∷ [] = rw (drop-cons s place 0 inside) in cc)
 
   -- From `at` so many steps of width n, over separators alone, have come to a place.
   pub record Stepping (n at place steps : ℕ) : Type 0 where
@@ -44,12 +44,12 @@ module _ (separator : ℕ) (s : List ℕ) where
     pub inside : place ≤ length s
     pub same_end : run_end separator s place ≡ run_end separator s at
 
-  pub stepping-starts : (n at : ℕ) → at ≤ length s → Stepping n at at 0
-  stepping-starts n at h = record { stands = omega arith; inside = h; same_end = refl }
+  pub stepping_starts : (n at : ℕ) → at ≤ length s → Stepping n at at 0
+  stepping_starts n at h = record { stands = omega arith; inside = h; same_end = refl }
 
   module _ (n at place steps : ℕ) (here : Stepping n at place steps) where
-    pub stepping-on : 0 < separator → place + n ≤ length s → take n (drop place s) ≡ replicate n separator → Stepping n at (place + n) (steps + 1)
-    stepping-on positive room same =
+    pub stepping_on : 0 < separator → place + n ≤ length s → take n (drop place s) ≡ replicate n separator → Stepping n at (place + n) (steps + 1)
+    stepping_on positive room same =
         let past : run place ≡ n + run (place + n) = run_past separator n (drop place s) positive same ∙ ap (λ (l : List ℕ). n + separator_run separator l) (drop-drop n place s) in
         record {
           stands = rw mul-add (omega (arith, here.stands));
@@ -63,19 +63,19 @@ module _ (separator : ℕ) (s : List ℕ) where
         let all : run at ≡ n * steps + run place = omega (arith, here.stands, here.same_end) in
         rw (all, mul-add-div positive, div-eq_of_lt few) (omega arith)
 
-    pub stops-on-other : 0 < n → (take n (drop place s) ≡ replicate n separator → ⊥) → steps ≡ run at / n
-    stops-on-other positive differ = stops positive (go (leb n (run place)) refl) where
+    pub stops_on_other : 0 < n → (take n (drop place s) ≡ replicate n separator → ⊥) → steps ≡ run at / n
+    stops_on_other positive differ = stops positive (go (leb n (run place)) refl) where
       go : (t : Bool) → leb n (run place) ≡ t → run place < n
       go true t = absurd (differ (run_begins separator n (drop place s) (leb-true _ _ t)))
       go false t = leb-false _ _ t
 
-    pub stops-near-end : 0 < n → length s - place < n → steps ≡ run at / n
-    stops-near-end positive near = stops positive (omega (arith, run_fits separator (drop place s), length-drop place s))
+    pub stops_near_end : 0 < n → length s - place < n → steps ≡ run at / n
+    stops_near_end positive near = stops positive (omega (arith, run_fits separator (drop place s), length-drop place s))
 
   -- Steps over eight bytes and then over one come to the end of the run, whose remainder is gone over singly.
-  pub all-steps : (at eights tail ones end : ℕ) → 0 < separator → eights ≡ run at / 8 → tail ≡ at + 8 * eights → ones ≡ run tail → end ≡ tail + ones
+  pub all_steps : (at eights tail ones end : ℕ) → 0 < separator → eights ≡ run at / 8 → tail ≡ at + 8 * eights → ones ≡ run tail → end ≡ tail + ones
       → record { end = end; eights = eights; ones = ones } ≡ run_search_of separator s at
-  all-steps at eights tail ones end positive by-eight stands rest ends =
+  all_steps at eights tail ones end positive by-eight stands rest ends =
       let past = run_past separator (8 * eights) (drop at s) positive (run_begins separator (8 * eights) (drop at s) (omega arith)) in
       let behind : run at ≡ 8 * eights + run tail =
       past ∙ ap (λ (l : List ℕ). 8 * eights + separator_run separator l) (drop-drop (8 * eights) at s ∙ ap (λ (k : ℕ). drop k s) (sym stands)) in
@@ -94,8 +94,8 @@ module _ (separator : ℕ) (s : List ℕ) where
     none_there true t = none_of (drop at s) (eqb-true separator 0 t)
     none_there false t = rw (drop_of_length-le s (leb-true (length s) at (rw t at e)))
 
-  pub may-step : (at : ℕ) → (eqb separator 0 || leb (length s) at) ≡ false → (0 < separator) × (at ≤ length s)
-  may-step at e = go (eqb separator 0) (leb (length s) at) refl refl where
+  pub may_step : (at : ℕ) → (eqb separator 0 || leb (length s) at) ≡ false → (0 < separator) × (at ≤ length s)
+  may_step at e = go (eqb separator 0) (leb (length s) at) refl refl where
     go : (t u : Bool) → eqb separator 0 ≡ t → leb (length s) at ≡ u → (0 < separator) × (at ≤ length s)
     go true u t q = absurd (let z : ◌≡◌ {A = ℕ} 0 1 = cc in omega arith)
     go false true t q = absurd (let z : ◌≡◌ {A = ℕ} 0 1 = cc in omega arith)

@@ -1,7 +1,7 @@
 -- The block take: what it answers where it is refused and where it is not, and which part of the buffer its block is. Assumes nothing.
-use Rattle.std.proofs.Common.{◌≡◌, ℕ, ◌+◌, ◌-◌, ◌≤◌, min, Bool, true, false, eqb, List, [], length, take, drop, sym, refl, ap, ◌∙◌, arith, MutBor, eqb-true}
+use Rattle.std.proofs.Common.{◌≡◌, ℕ, ◌+◌, ◌-◌, ◌≤◌, min, Bool, true, false, eqb, List, [], length, take, drop, sym, refl, ap, ◌∙◌, arith, eqb-true}
 use mathlib.Core.Option.{some, none}
-use base.Fml.{GName}
+use Rattle.std.specs.Borrow.{Bor}
 use Rattle.reader.specs.declared.state.Reader.{Reader}
 use Rattle.reader.specs.declared.state.State.{State}
 use Rattle.reader.specs.declared.state.Refusal.{Refusal}
@@ -11,15 +11,14 @@ use Rattle.reader.specs.declared.skip.BlockAnswer.{BlockAnswer}
 use Rattle.reader.specs.State.{moved_to}
 use Rattle.reader.specs.Reading.{Reading, reading_for, has_any_flag}
 use Rattle.reader.specs.Answer.{number_of, BlockOutcome, block_bytes, block_outcome_of}
-use Rattle.reader.specs.Part.{PartOf}
 use Rattle.reader.specs.Block.{block_refusal, refused_block, block_from, take_n_of, take_n_part, part_start, BlockPart}
 use Rattle.reader.proofs.state.Refusals.{block_within, refusal_tells}
 use Rattle.reader.proofs.passing.Places.{none_there}
 
 module _ (m : Reading) (s : List ℕ) (st : State) (r : Reader) (n : ℕ) where
-  pub block-admitted : block_refusal s st r ≡ 0 → block_from m.flags s st n ≡ take_n_of m s st r n
+  pub block_admitted : block_refusal s st r ≡ 0 → block_from m.flags s st n ≡ take_n_of m s st r n
   unfolding take_n_of
-  block-admitted clear = rw clear
+  block_admitted clear = rw clear
 
   pub block_refused : (e : Refusal) → number_of e ≡ block_refusal s st r → refused_block (number_of e) st ≡ take_n_of m s st r n
   unfolding take_n_of
@@ -52,8 +51,8 @@ module _ (m : Reading) (s : List ℕ) (st : State) (r : Reader) (n : ℕ) where
       moves : (a.state.cursor ≡ st.cursor + a.report.taken) × (st.cursor + a.report.taken ≤ length s)
       moves = rw (sym (ap (λ (o : BlockOutcome). o.state) e)) at (block_inside a.report.taken answered)
 
-      pub part-within : (st.cursor ≤ a.state.cursor) × (a.state.cursor ≤ length s)
-      part-within = (omega (arith, moves.0), omega (arith, moves.0, moves.1))
+      pub part_within : (st.cursor ≤ a.state.cursor) × (a.state.cursor ≤ length s)
+      part_within = (omega (arith, moves.0), omega (arith, moves.0, moves.1))
 
       part_taken : take (a.state.cursor - st.cursor) (drop st.cursor s) ≡ take_n_part m s st r n
       unfolding take_n_part
@@ -72,14 +71,14 @@ module _ (m : Reading) (s : List ℕ) (st : State) (r : Reader) (n : ℕ) where
       none_start : 0 ≡ part_start st.cursor (take_n_of m s st r n).block
       none_start = rw (sym bytes, nothing)
 
--- a sub-slice under some ghost name
-abbrev pub sub : MutBor (List ℕ) → ℕ → List ℕ → GName → MutBor (List ℕ)
-sub lent start contents ghost = record { ref_ptr = (lent.ptr.0, start + lent.ptr.1); ghost_name = ghost; now = contents }
+-- a sub-slice
+abbrev pub sub : Bor (List ℕ) → ℕ → List ℕ → Bor (List ℕ)
+sub lent start contents = record { ref_ptr = (lent.ref_ptr.0, start + lent.ref_ptr.1); now = contents }
 
 -- the lent slice between the two cursors is the part of a block; where there is none, its empty part at the start is
-module _ (lent : MutBor (List ℕ)) (st : State) (r : Reader) (n : ℕ) (a : BlockAnswer) (e : block_outcome_of a ≡ take_n_of (reading_for st r) lent.now st r n) (ghost : GName) where
-  pub part-of-block : a.report.block ≡ Taken → BlockPart lent st r n (sub lent st.cursor (take (a.state.cursor - st.cursor) (drop st.cursor lent.now)) ghost)
-  part-of-block taken =
+module _ (lent : Bor (List ℕ)) (st : State) (r : Reader) (n : ℕ) (a : BlockAnswer) (e : block_outcome_of a ≡ take_n_of (reading_for st r) lent.now st r n) where
+  pub part_of_block : a.report.block ≡ Taken → BlockPart lent st r n (sub lent st.cursor (take (a.state.cursor - st.cursor) (drop st.cursor lent.now)))
+  part_of_block taken =
       let m = reading_for st r in
       record {
         block = refl;
@@ -87,8 +86,8 @@ module _ (lent : MutBor (List ℕ)) (st : State) (r : Reader) (n : ℕ) (a : Blo
         bytes = part_taken m lent.now st r n a e taken;
       }
 
-  pub part-of-none : block_bytes a.report.block a.report.taken ≡ none → BlockPart lent st r n (sub lent 0 [] ghost)
-  part-of-none nothing =
+  pub part_of_none : block_bytes a.report.block a.report.taken ≡ none → BlockPart lent st r n (sub lent 0 [])
+  part_of_none nothing =
       let m = reading_for st r in
       record {
         block = refl;

@@ -12,16 +12,16 @@ use Rattle.reader.specs.declared.state.Refusal.{Refusal}
 use Rattle.reader.specs.declared.skip.Looked.{Looked}
 use Rattle.reader.specs.State.{moved_to}
 use Rattle.reader.specs.Reading.{Reading}
-use Rattle.reader.proofs.passing.Places.{byte-here, no_byte}
+use Rattle.reader.proofs.passing.Places.{byte_here, no_byte}
 
 module _ (s : List ℕ) (st : State) (place k : ℕ) (moves : place ≡ st.cursor + k) where
-  pub looked-byte : place < length s → look_outcome st (Byte (get_or s place 0) place (place - st.cursor)) ≡ seen_past s st k
-  looked-byte h =
+  pub looked_byte : place < length s → look_outcome st (Byte (get_or s place 0) place (place - st.cursor)) ≡ seen_past s st k
+  looked_byte h =
       let passed : place - st.cursor ≡ k = omega arith in
-      rw (passed, sym (byte-here s place h), moves)
+      rw (passed, sym (byte_here s place h), moves)
 
-  pub looked-end : length s ≤ place → look_outcome st (End place (place - st.cursor)) ≡ seen_past s st k
-  looked-end h =
+  pub looked_end : length s ≤ place → look_outcome st (End place (place - st.cursor)) ≡ seen_past s st k
+  looked_end h =
       let passed : place - st.cursor ≡ k = omega arith in
       rw (passed, sym (no_byte s place h), moves)
 
@@ -31,34 +31,34 @@ seen_as m s st r a b e same = sym (ap (look_outcome st) same) ∙ e
 
 module _ (m : Reading) (s : List ℕ) (st : State) (r : Reader) where
   module _ (b place passed : ℕ) (seen : look_outcome st (Byte b place passed) ≡ peek_of m s st r) where
-    pub takes-byte : record { refusal = 0; byte = some b; taken = 1; passed = passed; state = taken_from m r b (moved_to st place) } ≡ next_of m s st r
+    pub takes_byte : record { refusal = 0; byte = some b; taken = 1; passed = passed; state = taken_from m r b (moved_to st place) } ≡ next_of m s st r
     unfolding next_of
-    takes-byte = rw (sym seen)
+    takes_byte = rw (sym seen)
 
     pub reads_byte : (wanted : ℕ → Bool) → wanted b ≡ true
         → record { outcome = record { refusal = 0; byte = some b; taken = 1; passed = passed; state = moved_to st (place + 1) }; seen = some b } ≡ read_of m s st r wanted
     unfolding read_if_of moved_to
     reads_byte wanted holds = rw (sym seen, holds)
 
-    pub declines-byte : (wanted : ℕ → Bool) → wanted b ≡ false
+    pub declines_byte : (wanted : ℕ → Bool) → wanted b ≡ false
         → record { outcome = record { refusal = 0; byte = none; taken = 0; passed = passed; state = moved_to st place }; seen = some b } ≡ read_of m s st r wanted
     unfolding read_if_of
-    declines-byte wanted fails = rw (sym seen, fails)
+    declines_byte wanted fails = rw (sym seen, fails)
 
   module _ (place passed : ℕ) (seen : look_outcome st (End place passed) ≡ peek_of m s st r) where
-    pub takes-end : look_outcome st (End place passed) ≡ next_of m s st r
+    pub takes_end : look_outcome st (End place passed) ≡ next_of m s st r
     unfolding next_of
-    takes-end = rw (sym seen)
+    takes_end = rw (sym seen)
 
     pub reads_end : (wanted : ℕ → Bool) → record { outcome = look_outcome st (End place passed); seen = none } ≡ read_of m s st r wanted
     unfolding read_if_of
     reads_end wanted = rw (sym seen)
 
   module _ (e : Refusal) (seen : look_outcome st (Refused e) ≡ peek_of m s st r) where
-    pub takes-refused : refused (number_of e) st ≡ next_of m s st r
+    pub takes_refused : refused (number_of e) st ≡ next_of m s st r
     unfolding next_of
-    takes-refused = rw (sym seen)
+    takes_refused = rw (sym seen)
 
-    pub reads-refused : (wanted : ℕ → Bool) → refused_read (number_of e) st ≡ read_of m s st r wanted
+    pub reads_refused : (wanted : ℕ → Bool) → refused_read (number_of e) st ≡ read_of m s st r wanted
     unfolding read_if_of
-    reads-refused wanted = rw (sym seen)
+    reads_refused wanted = rw (sym seen)

@@ -1,12 +1,12 @@
 -- Takes come to the end of a run that is refused one by one, so the loop may go there at once. For the proof of `take_run`. Assumes
 -- nothing.
-use Rattle.std.proofs.Common.{◌≡◌, ℕ, zero, suc, ◌+◌, ◌-◌, ◌<◌, Bool, true, false, cond, not, ◌&&◌, ◌||◌, eqb, List, length, get_or, drop, sym, refl, ap, ◌∙◌, ⊎_elim, eq-zero-or-pos, add-one, arith, drop-cons, eq-eqb, ne_eqb, eqb-true}
+use Rattle.std.proofs.Common.{◌≡◌, ℕ, zero, suc, ◌+◌, ◌-◌, ◌<◌, Bool, true, false, cond, not, ◌&&◌, ◌||◌, eqb, List, length, get_or, drop, sym, refl, ◌∙◌, ⊎_elim, eq-zero-or-pos, add-one, arith, drop-cons, eq-eqb, ne_eqb, eqb-true}
 use Rattle.reader.specs.Place.{separator_run}
 use Rattle.reader.specs.Reading.{Reading, may_pass, passed_at}
 use Rattle.reader.specs.Code.TakeSums.{count_behind, lands_at}
 use Rattle.reader.proofs.Booleans.{and_left, and_right, contradicts}
 use Rattle.reader.proofs.passing.Places.{is_separator_lem}
-use Rattle.reader.proofs.passing.RefusedRuns.{inside, begins, positive, refused-first, refused-next, refused-stays}
+use Rattle.reader.proofs.passing.RefusedRuns.{inside, begins, positive, refused-first, refused_next, refused_stays}
 use Rattle.reader.proofs.passing.Passed.{separator_is}
 use Rattle.reader.proofs.skip.SumsLoop.{Summing, summing_on}
 
@@ -31,33 +31,33 @@ module _
     (consecutive : m.flags.consecutive ≡ true)
   where
     -- whether a separator that is taken is counted
-    abbrev counted-too : Bool
-    counted-too = counts && m.digit m.separator
+    abbrev counted_too : Bool
+    counted_too = counts && m.digit m.separator
 
     take_one : (at k count : ℕ) → separator_run m.separator (drop at s) ≡ suc k → may_pass m s (eqb count 0) at ≡ false
-        → Summing m s counts start counted at count passed → Summing m s counts start counted (suc at) (cond counted-too (count + 1) count) passed
+        → Summing m s counts start counted at count passed → Summing m s counts start counted (suc at) (cond counted_too (count + 1) count) passed
     take_one at k count e refused here =
         let none_passed : passed + (at - at) ≡ passed = omega arith in
         let h = inside m.separator s at k e in
         let b = separator_is m.separator (get_or s at 0) (begins m.separator s at k e).0 in
-        let on = summing_on m s counts start counted at count passed here at (refused-stays m s consecutive (eqb count 0) at refused) h in
+        let on = summing_on m s counts start counted at count passed here at (refused_stays m s consecutive (eqb count 0) at refused) h in
         rw add-one at (rw (b, none_passed) at on)
 
     -- Takes come from a separator that is refused to the end of its run.
-    take_rest : (k at count : ℕ) → (counted-too ≡ true → 0 < count) → separator_run m.separator (drop at s) ≡ suc k → may_pass m s (eqb count 0) at ≡ false
-        → Summing m s counts start counted at count passed → Summing m s counts start counted (at + suc k) (cond counted-too (count + suc k) count) passed
+    take_rest : (k at count : ℕ) → (counted_too ≡ true → 0 < count) → separator_run m.separator (drop at s) ≡ suc k → may_pass m s (eqb count 0) at ≡ false
+        → Summing m s counts start counted at count passed → Summing m s counts start counted (at + suc k) (cond counted_too (count + suc k) count) passed
     take_rest zero at count above e refused here =
         let same : at + 1 ≡ suc at = add-one at in
         rw same (take_one at zero count e refused here)
     take_rest (suc k) at count above e refused here =
         let same : at + suc (suc k) ≡ suc at + suc k = omega arith in
-        let next : may_pass m s (eqb (cond counted-too (count + 1) count) 0) (suc at) ≡ false = rw (first_stays counted-too count above) (refused-next m s consecutive (eqb count 0) at k e refused) in
-        rw (same, sym (one_more counted-too count k))
-        (take_rest k (suc at) (cond counted-too (count + 1) count) (above_stays counted-too count above) (begins m.separator s at (suc k) e).1 next (take_one at (suc k) count e refused here))
+        let next : may_pass m s (eqb (cond counted_too (count + 1) count) 0) (suc at) ≡ false = rw (first_stays counted_too count above) (refused_next m s consecutive (eqb count 0) at k e refused) in
+        rw (same, sym (one_more counted_too count k))
+        (take_rest k (suc at) (cond counted_too (count + 1) count) (above_stays counted_too count above) (begins m.separator s at (suc k) e).1 next (take_one at (suc k) count e refused here))
 
-    pub run-taken : (at k count : ℕ) → (counted-too ≡ true → 0 < count) → separator_run m.separator (drop at s) ≡ suc k → passed_at m s (eqb count 0) at ≡ 0
-        → Summing m s counts start counted at count passed → Summing m s counts start counted (at + suc k) (cond counted-too (count + suc k) count) passed
-    run-taken at k count above e refused here = take_rest k at count above e (refused-first m s consecutive (eqb count 0) at k e refused) here
+    pub run_taken : (at k count : ℕ) → (counted_too ≡ true → 0 < count) → separator_run m.separator (drop at s) ≡ suc k → passed_at m s (eqb count 0) at ≡ 0
+        → Summing m s counts start counted at count passed → Summing m s counts start counted (at + suc k) (cond counted_too (count + suc k) count) passed
+    run_taken at k count above e refused here = take_rest k at count above e (refused-first m s consecutive (eqb count 0) at k e refused) here
 
 -- the count behind one byte, and behind a run of them
 count_of : (t : Bool) (count taken : ℕ) → cond (eqb (cond t (count + 1) count) count) count (count + taken) ≡ cond t (count + taken) count
@@ -101,12 +101,12 @@ module _
         let e : separator_run m.separator (drop at s) ≡ suc (separator_run m.separator (drop (suc at) s)) = rw (drop-cons s at 0 (omega (arith, stays, h)), is_separator_lem m.separator _ p equal) in
         let above = grows (counts && m.digit m.separator) count (rw byte at (and_right (eqb (place - at) 0) (eqb more count || not (eqb count 0)) t)) in
         rw (nothing, stays, byte, count_of (counts && m.digit m.separator) count (separator_run m.separator (drop at s)), e)
-        (run-taken m s counts start counted passed consecutive at _ count above e refused here)
+        (run_taken m s counts start counted passed consecutive at _ count above e refused here)
 
-    pub summing-taken : (to : ℕ)
+    pub summing_taken : (to : ℕ)
         → to ≡ place + cond (refused_here && not (eqb m.separator 0)) (cond m.flags.consecutive (separator_run m.separator (drop place s)) 1) 1
         → Summing m s counts start counted to (cond (eqb more count) count (count + (to - place))) (passed + (place - at))
-    summing-taken to on = go (refused_here && not (eqb m.separator 0)) m.flags.consecutive refl refl on where
+    summing_taken to on = go (refused_here && not (eqb m.separator 0)) m.flags.consecutive refl refl on where
       one : to ≡ place + 1 → Summing m s counts start counted to (cond (eqb more count) count (count + (to - place))) (passed + (place - at))
       one l = let step : to - place ≡ 1 = omega arith in rw (step, l) one_taken
 

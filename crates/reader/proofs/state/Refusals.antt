@@ -1,5 +1,5 @@
 -- What a call may count on that is not refused, and what it answers where it is: for every call. Assumes nothing.
-use Rattle.std.proofs.Common.{◌≡◌, ℕ, ◌<◌, ◌≤◌, Bool, true, false, cond, not, eqb, leb, List, [], ◌∷◌, length, sym, refl, ◌∙◌, arith, le-leb, leb-false, leb-true}
+use Rattle.std.proofs.Common.{◌≡◌, ℕ, ◌<◌, ◌≤◌, Bool, true, false, not, eqb, leb, List, [], ◌∷◌, length, sym, refl, ◌∙◌, arith, le-leb, leb-false, leb-true}
 use borrow.Author.Tests.{lt-leb}
 use Rattle.reader.specs.declared.rule.Flags.{Flags}
 use Rattle.reader.specs.declared.state.Reader.{Reader}
@@ -93,13 +93,13 @@ skip_admits f s st r clear =
 
 -- a state that is not refused stays so while its cursor is within the buffer and its counts within the cursor
 module _ (f : Flags) (s : List ℕ) (st here : State) (r : Reader) (cursor : here.cursor ≤ length s) (counts : count_sum here ≤ here.cursor) where
-  pub still-admitted : refusal_with f s st r ≡ 0 → refusal_with f s here r ≡ 0
+  pub still_admitted : refusal_with f s st r ≡ 0 → refusal_with f s here r ≡ 0
   unfolding refusal_with Clear
-  still-admitted clear = still_clear s st here (line_consecutive f r ∷ []) clear cursor counts
+  still_admitted clear = still_clear s st here (line_consecutive f r ∷ []) clear cursor counts
 
-  pub still-skipping : skip_refusal f s st r ≡ 0 → skip_refusal f s here r ≡ 0
+  pub still_skipping : skip_refusal f s st r ≡ 0 → skip_refusal f s here r ≡ 0
   unfolding skip_refusal Clear
-  still-skipping clear = still_clear s st here (line18 r ∷ line_consecutive f r ∷ []) clear cursor counts
+  still_skipping clear = still_clear s st here (line18 r ∷ line_consecutive f r ∷ []) clear cursor counts
 
 -- a refusal's number is not that of success
 pub refusal_tells : (e : Refusal) → eqb (number_of e) 0 ≡ false
@@ -111,14 +111,14 @@ refusal_tells ConsecutiveFraction = refl
 refusal_tells ConsecutiveExponent = refl
 
 module _ (m : Reading) (s : List ℕ) (st : State) (r : Reader) where
-  pub peek-admitted : refusal_with m.flags s st r ≡ 0 → peek_of m s st r ≡ peeked m s st r
+  pub peek_admitted : refusal_with m.flags s st r ≡ 0 → peek_of m s st r ≡ peeked m s st r
   unfolding peek_of
-  peek-admitted clear = rw clear
+  peek_admitted clear = rw clear
 
-  pub peek-refused : (e : Refusal) → number_of e ≡ refusal_with m.flags s st r → peek_of m s st r ≡ refused (number_of e) st
+  pub peek_refused : (e : Refusal) → number_of e ≡ refusal_with m.flags s st r → peek_of m s st r ≡ refused (number_of e) st
   unfolding peek_of
-  peek-refused e number = rw (sym number, refusal_tells e)
+  peek_refused e number = rw (sym number, refusal_tells e)
 
-  pub turned-away : eqb (refusal_of m s st r) 0 ≡ false → peek_of m s st r ≡ refused (refusal_of m s st r) st
+  pub turned_away : eqb (refusal_of m s st r) 0 ≡ false → peek_of m s st r ≡ refused (refusal_of m s st r) st
   unfolding peek_of
-  turned-away t = rw t
+  turned_away t = rw t

@@ -49,12 +49,12 @@ module _ (text₀ : List ℕ) (begun : Stage) (input : List ℕ) (ended : Bool) 
       go true e = ends e
       go false e = absurd (omega (arith, due e, less))
 
-    pub answering-goes-on : {text' out' : List ℕ} {answer : Response'} {k : ℕ}
+    pub answering_goes_on : {text' out' : List ℕ} {answer : Response'} {k : ℕ}
         → k ≡ min (length (drop (used + 1) input)) (body_length (kind_of (get_or input used 0)))
         → length text' ≡ most_text
         → Responds (response_at (run_in text stage) (get_or input used 0) (take (length input - (used + 1)) (drop (used + 1) input))) text' out end out' answer
         → Answering text₀ begun input ended out₀ text' out' answer.stage (used + 1 + k) answer.end
-    answering-goes-on {text' = text'} {out' = out'} {answer = answer} {k = k} ek kept r =
+    answering_goes_on {text' = text'} {out' = out'} {answer = answer} {k = k} ek kept r =
         let r' : Responds (response_at (run_in text stage) (get_or input used 0) (drop (used + 1) input)) text' out end out' answer = rw (to_the_end input (used + 1)) at r in
         let fits : k ≤ length input - (used + 1) = omega (arith, ek, length-drop (used + 1) input) in
         record {
@@ -77,17 +77,17 @@ module _ (stage : Stage) (room : ℕ) (ended : Bool) (size there : ℕ) (is : Bo
     due : is_due stage room ended size there ≡ true
     due = sym known ∙ holds
 
-    pub due-room : longest_line ≤ room
+    pub due_room : longest_line ≤ room
     unfolding is_due
-    due-room = go (is_stopped stage) (leb longest_line room) refl refl where
+    due_room = go (is_stopped stage) (leb longest_line room) refl refl where
       go : (s r : Bool) → is_stopped stage ≡ s → leb longest_line room ≡ r → longest_line ≤ room
       go s true e f = leb-true longest_line room f
       go true false e f = let no : false ≡ true = rw e at due in absurd (false_no no)
       go false false e f = let no : false ≡ true = rw (e, f) at due in absurd (false_no no)
 
-    pub due-whole : ended ≡ false → size ≤ there
+    pub due_whole : ended ≡ false → size ≤ there
     unfolding is_due
-    due-whole more = go (is_stopped stage) (leb longest_line room) (leb size there) refl refl refl where
+    due_whole more = go (is_stopped stage) (leb longest_line room) (leb size there) refl refl refl where
       go : (s r w : Bool) → is_stopped stage ≡ s → leb longest_line room ≡ r → leb size there ≡ w → size ≤ there
       go s r true e f g = leb-true size there g
       go true r false e f g = let no : false ≡ true = rw e at due in absurd (false_no no)

@@ -35,9 +35,9 @@ module _ (body : List ℕ) (place size number left : ℕ) (inside : place + size
     behind : suc (place + (left - 1)) ≡ place + left
     behind = omega (arith, more)
 
-    pub reading-goes-on : get_or body (place + (left - 1)) 0 < 256
+    pub reading_goes_on : get_or body (place + (left - 1)) 0 < 256
         → Reading body place size (number * 256 + get_or body (place + (left - 1)) 0) (left - 1)
-    reading-goes-on small =
+    reading_goes_on small =
         record {
           within = omega (arith, here.within);
           value =
@@ -47,13 +47,13 @@ module _ (body : List ℕ) (place size number left : ℕ) (inside : place + size
         }
 
     -- there is room for one more byte below 2 ^ 64
-    pub reading-room : size ≤ 8 → number < 256 ^ 7
-    reading-room small =
+    pub reading_room : size ≤ 8 → number < 256 ^ 7
+    reading_room small =
         let most : 256 ^ (size - left) ≤ 256 ^ 7 = pow-le-pow_right (omega arith) {i = size - left} {j = 7} (omega (arith, here.within)) in
         omega (arith, here.fits)
 
-  pub reading-ends : left ≤ 0 → (number ≡ number_at body place size) × (number < 256 ^ size)
-  reading-ends nothing =
+  pub reading_ends : left ≤ 0 → (number ≡ number_at body place size) × (number < 256 ^ size)
+  reading_ends nothing =
       let whole : size - left ≡ size = omega (arith, nothing) in
       let start : place + left ≡ place = omega (arith, nothing) in
       (rw (whole, start) at here.value, rw whole at here.fits)

@@ -30,16 +30,16 @@ pub responds : {response : Response} {buffer before after : List ℕ} {at end : 
 responds e w g = rw e (record { wrote = w; goes_on = g })
 
 module _ (text : List ℕ) (n b : ℕ) (whole : length text ≡ most_text) where
-  pub text-added : (out : List ℕ) (at : ℕ) (answer : Response') → n < most_text → answer ≡ record { stage = stage.Gathering (n + 1); end = at }
+  pub text_added : (out : List ℕ) (at : ℕ) (answer : Response') → n < most_text → answer ≡ record { stage = stage.Gathering (n + 1); end = at }
       → Responds (add_text (take n text) b) (set text n b) out at out answer
-  text-added out at answer room e =
+  text_added out at answer room e =
       let fits : length (take n text) < most_text = simp length-take (omega (arith, room, whole)) in
       rw (lt-ltb (length (take n text)) most_text fits)
       (responds {stage = stage.Gathering (n + 1)} e (wrote_nothing out at) (rw (add-one n, take-suc-set text n b (omega (arith, room, whole)))))
 
-  pub text-full : {buffer out out' : List ℕ} {at : ℕ} {answer : Response'} → most_text ≤ n
+  pub text_full : {buffer out out' : List ℕ} {at : ℕ} {answer : Response'} → most_text ≤ n
       → Responds (stops refusal.TextFull) buffer out at out' answer → Responds (add_text (take n text) b) buffer out at out' answer
-  text-full noroom r =
+  text_full noroom r =
       let full : most_text ≤ length (take n text) = simp length-take (omega (arith, noroom, whole)) in
       rw (le-ltb (length (take n text)) most_text full) r
 
@@ -57,11 +57,11 @@ module _ (buffer : List ℕ) (k n : ℕ) (st : State) (r : Reader) (asked : Call
     (within : k ≡ min n (length buffer))
     (replied : reply ≡ reply_of (answer_to reading_on (take (k - 0) buffer) st (call_by asked r)))
   where
-    pub call-responds : {out after : List ℕ} {at end : ℕ} {answer : Response'} → Wrote out at (reply_line asked reply) after end
+    pub call_responds : {out after : List ℕ} {at end : ℕ} {answer : Response'} → Wrote out at (reply_line asked reply) after end
         → answer ≡ record { stage = stage.Opened n reply.state; end = end }
         → Responds (call_response (take n buffer) st r asked) buffer out at after answer
     unfolding call_response
-    call-responds w answered =
+    call_responds w answered =
         let whole_part : k - 0 ≡ k = omega arith in
         let reply_told : reply ≡ reply_of (answer_to reading_on (take n buffer) st (call_by asked r)) = rw (whole_part, within, take_least buffer n) at replied in
         responds answered (wrote_as w (rw reply_told) refl) (rw reply_told)

@@ -51,9 +51,9 @@ module _ (before : List ℕ) (from end : ℕ) (room : end ≤ length before) (i 
       let back : i + from ≡ from + i = omega arith in
       rw (place) (get_or-append-add (take i (drop from before)) (drop i before) from 0 ∙ rw (get_or-drop i before from 0, back, place))
 
-  pub keeping-goes-on : (held : List ℕ) → from + i < end → Keeping before from end held i
+  pub keeping_goes_on : (held : List ℕ) → from + i < end → Keeping before from end held i
       → Keeping before from end (set held i (get_or held (from + i) 0)) (i + 1)
-  keeping-goes-on held more here =
+  keeping_goes_on held more here =
       record {
         within = omega (arith, more);
         size = simp length-set here.size;
@@ -66,9 +66,9 @@ module _ (before : List ℕ) (from end : ℕ) (room : end ≤ length before) (i 
             ∙ rw (add-one i, take-suc (drop from before) i 0 there, get_or-drop from before i 0, append_assoc);
       }
 
-  pub keeping-ends : (held : List ℕ) → end ≤ from + i → Keeping before from end held i
+  pub keeping_ends : (held : List ℕ) → end ≤ from + i → Keeping before from end held i
       → ((i ≡ end - from) × (length held ≡ length before)) × (take i held ≡ take i (drop from before))
-  keeping-ends held past here =
+  keeping_ends held past here =
       ((omega (arith, past, here.within), here.size), ap (take i) here.moved ∙ take_at (take i (drop from before)) (drop i before) i (start_length here.within))
 
 drop_of_take : (l : List ℕ) (used filled : ℕ) → drop used (take filled l) ≡ take (filled - used) (drop used l)
@@ -210,15 +210,15 @@ follows_by : (n m : Next) (turn : Turn) (ended : Bool) (buffer buffer' : List �
 follows_by n m turn ended buffer buffer' answer e h = rw e h
 
 module _ (done : Bool) (turn : Turn) (ended : Bool) (buffer : List ℕ) where
-  pub follows-failed : done ≡ false → Follows done turn ended buffer buffer status.CannotWrite
-  follows-failed e = rw e (refl, refl)
+  pub follows_failed : done ≡ false → Follows done turn ended buffer buffer status.CannotWrite
+  follows_failed e = rw e (refl, refl)
 
-  pub follows-over : done ≡ true → turn.next ≡ next.Over → Follows done turn ended buffer buffer status.Over
-  follows-over e n = rw e (follows_by next.Over turn.next turn ended buffer buffer status.Over n (refl, refl))
+  pub follows_over : done ≡ true → turn.next ≡ next.Over → Follows done turn ended buffer buffer status.Over
+  follows_over e n = rw e (follows_by next.Over turn.next turn ended buffer buffer status.Over n (refl, refl))
 
-  pub follows-again : done ≡ true → turn.next ≡ next.Again → Follows done turn ended buffer buffer (after_no_read turn ended)
-  follows-again e n = rw e (follows_by next.Again turn.next turn ended buffer buffer (after_no_read turn ended) n (refl, refl))
+  pub follows_again : done ≡ true → turn.next ≡ next.Again → Follows done turn ended buffer buffer (after_no_read turn ended)
+  follows_again e n = rw e (follows_by next.Again turn.next turn ended buffer buffer (after_no_read turn ended) n (refl, refl))
 
-  pub follows-read : (buffer' : List ℕ) (came : Arrival) (answer : Status) → done ≡ true → turn.next ≡ next.Read → Reads turn.kept buffer buffer' came → answer ≡ after_read turn came
+  pub follows_read : (buffer' : List ℕ) (came : Arrival) (answer : Status) → done ≡ true → turn.next ≡ next.Read → Reads turn.kept buffer buffer' came → answer ≡ after_read turn came
       → Follows done turn ended buffer buffer' answer
-  follows-read buffer' came answer e n reads tells = rw e (follows_by next.Read turn.next turn ended buffer buffer' answer n (record { came = came; reads = reads; tells = tells }))
+  follows_read buffer' came answer e n reads tells = rw e (follows_by next.Read turn.next turn ended buffer buffer' answer n (record { came = came; reads = reads; tells = tells }))

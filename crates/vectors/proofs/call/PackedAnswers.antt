@@ -21,11 +21,11 @@ refused-first ConsecutiveFraction first = refl
 refused-first ConsecutiveExponent first = refl
 
 module _ (part : List ℕ) (packed i : ℕ) where
-  pub one-behind : (next : ℕ) → i < length part → next ≡ with_byte packed (get_or part i 0)
+  pub one_behind : (next : ℕ) → i < length part → next ≡ with_byte packed (get_or part i 0)
       → bytes_behind packed (drop i part) ≡ bytes_behind next (drop (i + 1) part)
   unfolding bytes_behind
-  one-behind next inside is = rw (add-one, drop-cons part i 0 inside, is)
+  one_behind next inside is = rw (add-one, drop-cons part i 0 inside, is)
 
-  pub all-behind : length part ≤ i → bytes_behind packed (drop i part) ≡ packed
+  pub all_behind_lem : length part ≤ i → bytes_behind packed (drop i part) ≡ packed
   unfolding bytes_behind
-  all-behind end = rw (drop_of_length-le part end)
+  all_behind_lem end = rw (drop_of_length-le part end)

@@ -28,11 +28,11 @@ module _ (what bytes : ℕ) (f : Format) (buffer : List ℕ) (end : ℕ) (is : b
       let long : 8 < byte_of what 2 = omega (arith, past, size, to) in
       rw (lt-leb (byte_of what 2) 8 long)
 
-  pub same-call : (r : Reader) (answer : Repeated) (kind value : ℕ) (st : State)
+  pub same_call : (r : Reader) (answer : Repeated) (kind value : ℕ) (st : State)
       → kind ≡ byte_of what 0 → value ≡ byte_of what 7 → st ≡ state_of what f
       → answer ≡ answer_to kind (take (end - 0) buffer) st r value → answer ≡ asked_of what f bytes r
   unfolding state_of
-  same-call r answer kind value st k v s known =
+  same_call r answer kind value st k v s known =
       let whole : end - 0 ≡ end = omega arith in known ∙ rw (k, v, s, whole, is, to)
 
   module _ (within : end ≤ length buffer) (n : ℕ) (who : Named) (by : n ≡ byte_of what 1) (named : named_reader who ≡ reader_named n) where

@@ -8,11 +8,11 @@ use lib.Seq.{drop-cons}
 use Rattle.vectors.specs.Lines.{Taking, byte_taken, all_taken}
 
 module _ (chunk : List ℕ) (i : ℕ) (t : Taking) where
-  pub one-taken : (after : Taking) → i < length chunk → after ≡ byte_taken (get_or chunk i 0) t
+  pub one_taken : (after : Taking) → i < length chunk → after ≡ byte_taken (get_or chunk i 0) t
       → all_taken (drop i chunk) t ≡ all_taken (drop (i + 1) chunk) after
   unfolding all_taken
-  one-taken after inside is = rw (add-one, drop-cons chunk i 0 inside, is)
+  one_taken after inside is = rw (add-one, drop-cons chunk i 0 inside, is)
 
-  pub all-taken : length chunk ≤ i → all_taken (drop i chunk) t ≡ t
+  pub all_taken_lem : length chunk ≤ i → all_taken (drop i chunk) t ≡ t
   unfolding all_taken
-  all-taken end = rw (drop_of_length-le chunk end)
+  all_taken_lem end = rw (drop_of_length-le chunk end)

@@ -1,12 +1,12 @@
 -- A line's fields: where one ends, for `field_end`, what one more does, for `with_field`, and all of them in order, for `parse`.
 -- Assumes nothing.
 use Prim.Native.Nat.{ℕ, zero, suc, ◌+◌, ◌-◌, ◌≤◌, ◌<◌}
-use mathlib.Core.Path.{◌≡◌, refl, ◌∙◌, ap}
+use mathlib.Core.Path.{◌≡◌, refl, ◌∙◌}
 use mathlib.Core.List.{List, [], ◌∷◌}
 use native.Mathlib.Numerals.{add-one}
 use native.Mathlib.Omega.{arith}
 use lib.ListN.{length, take, drop, get_or, length-drop, drop_of_length-le}
-use lib.Seq.{drop-cons, drop-drop, drop-nil, take_all}
+use lib.Seq.{drop-cons, drop-drop, take_all}
 use borrow.Author.Tests.{eq-eqb, ne_eqb, lt-ltb, le-ltb}
 use Rattle.vectors.specs.declared.record.Number.{Number}
 use Rattle.vectors.specs.declared.record.Record.{Record}
@@ -14,17 +14,17 @@ use Rattle.vectors.specs.Hex.{read_hex}
 use Rattle.vectors.specs.Line.{of_kind, no_record, added, with_field, until_space, with_fields, record_of}
 
 module _ (line : List ℕ) (at : ℕ) where
-  pub at-space : at < length line → get_or line at 0 ≡ 32 → until_space (drop at line) ≡ 0
+  pub at_space : at < length line → get_or line at 0 ≡ 32 → until_space (drop at line) ≡ 0
   unfolding until_space
-  at-space inside e = rw (drop-cons line at 0 inside, eq-eqb _ _ e)
+  at_space inside e = rw (drop-cons line at 0 inside, eq-eqb _ _ e)
 
-  pub before-space : at < length line → (get_or line at 0 ≡ 32 → ⊥) → until_space (drop at line) ≡ suc (until_space (drop (at + 1) line))
+  pub before_space : at < length line → (get_or line at 0 ≡ 32 → ⊥) → until_space (drop at line) ≡ suc (until_space (drop (at + 1) line))
   unfolding until_space
-  before-space inside other = rw (drop-cons line at 0 inside, ne_eqb _ _ other, add-one)
+  before_space inside other = rw (drop-cons line at 0 inside, ne_eqb _ _ other, add-one)
 
-  pub at-end : length line ≤ at → until_space (drop at line) ≡ 0
+  pub at_end : length line ≤ at → until_space (drop at line) ≡ 0
   unfolding until_space
-  at-end end = rw (drop_of_length-le line end)
+  at_end end = rw (drop_of_length-le line end)
 
 module _ (r : Record) (field : List ℕ) where
   pub no_room : 8 ≤ r.count → no_record ≡ with_field r field
@@ -37,9 +37,9 @@ module _ (r : Record) (field : List ℕ) where
     no_field blank = rw (lt-ltb r.count 8 room, le-ltb 0 (length field) blank)
 
     module _ (filled : 0 < length field) where
-      pub no-space : (get_or field 0 0 ≡ 32 → ⊥) → no_record ≡ with_field r field
+      pub no_space : (get_or field 0 0 ≡ 32 → ⊥) → no_record ≡ with_field r field
       unfolding with_field
-      no-space other = rw (lt-ltb r.count 8 room, lt-ltb 0 (length field) filled, ne_eqb (get_or field 0 0) 32 other)
+      no_space other = rw (lt-ltb r.count 8 room, lt-ltb 0 (length field) filled, ne_eqb (get_or field 0 0) 32 other)
 
       pub with_number : (n : Number) → get_or field 0 0 ≡ 32 → n ≡ read_hex (take (length field - 1) (drop 1 field))
           → added r (length field - 1) n ≡ with_field r field
@@ -63,9 +63,9 @@ unfolding with_fields
 a_field r c rest = refl
 
 module _ (line : List ℕ) where
-  pub first-fields : (r : Record) → 0 < length line → r ≡ of_kind (get_or line 0 0) → with_fields 0 r (drop 1 line) ≡ record_of line
+  pub first_fields : (r : Record) → 0 < length line → r ≡ of_kind (get_or line 0 0) → with_fields 0 r (drop 1 line) ≡ record_of line
   unfolding record_of
-  first-fields r filled is = rw is (go line filled) where
+  first_fields r filled is = rw is (go line filled) where
     go : (l : List ℕ) → 0 < length l → with_fields 0 (of_kind (get_or l 0 0)) (drop 1 l) ≡ record_of l
     go [] filled = absurd (omega arith)
     go (kind ∷ rest) filled = refl
@@ -87,6 +87,6 @@ module _ (line : List ℕ) where
       let told : after ≡ with_field r (get_or line at 0 ∷ take w rest) = is ∙ rw (size, cut) in
       rw (cut, a_field r (get_or line at 0) rest, ← told, passed_over w after rest, drop-drop w (at + 1) line, ← to)
 
-  pub fields-end : (r : Record) (at : ℕ) → length line ≤ at → with_fields 0 r (drop at line) ≡ r
+  pub fields_end : (r : Record) (at : ℕ) → length line ≤ at → with_fields 0 r (drop at line) ≡ r
   unfolding with_fields
-  fields-end r at end = rw (drop_of_length-le line end)
+  fields_end r at end = rw (drop_of_length-le line end)

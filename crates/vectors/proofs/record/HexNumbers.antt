@@ -43,22 +43,22 @@ module _ (digits : List ℕ) where
   unfolding read_hex
   long many = simp (lt-ltb 0 (length digits) (omega arith), lt-leb (length digits) 16 many)
 
-  pub read-hex : 0 < length digits → length digits ≤ 16 → read_hex digits ≡ read_from 0 digits
+  pub read_hex_lem : 0 < length digits → length digits ≤ 16 → read_hex digits ≡ read_from 0 digits
   unfolding read_hex
-  read-hex filled few = simp (lt-ltb 0 (length digits) filled, le-leb (length digits) 16 few)
+  read_hex_lem filled few = simp (lt-ltb 0 (length digits) filled, le-leb (length digits) 16 few)
 
-  pub read-end : (value i : ℕ) → length digits ≤ i → read_from value (drop i digits) ≡ Value value
+  pub read_end : (value i : ℕ) → length digits ≤ i → read_from value (drop i digits) ≡ Value value
   unfolding read_from
-  read-end value i end = rw (drop_of_length-le digits end)
+  read_end value i end = rw (drop_of_length-le digits end)
 
   module _ (value i d : ℕ) (inside : i < length digits) (is : d ≡ hex_value (get_or digits i 0)) where
-    pub read-digit : d < 16 → read_from value (drop i digits) ≡ read_from (value * 16 + d) (drop (i + 1) digits)
+    pub read_digit : d < 16 → read_from value (drop i digits) ≡ read_from (value * 16 + d) (drop (i + 1) digits)
     unfolding read_from
-    read-digit small = rw (add-one, drop-cons digits i 0 inside, ← is, lt-ltb d 16 small)
+    read_digit small = rw (add-one, drop-cons digits i 0 inside, ← is, lt-ltb d 16 small)
 
-    pub read-other : 16 ≤ d → read_from value (drop i digits) ≡ Nothing
+    pub read_other : 16 ≤ d → read_from value (drop i digits) ≡ Nothing
     unfolding read_from
-    read-other large = rw (drop-cons digits i 0 inside, ← is, le-ltb d 16 large)
+    read_other large = rw (drop-cons digits i 0 inside, ← is, le-ltb d 16 large)
 
 module _ (value i d : ℕ) (bounded : value < 16 ^ i) (small : d < 16) where
   pub grows : value * 16 + d < 16 ^ (i + 1)

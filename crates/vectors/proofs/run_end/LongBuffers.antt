@@ -23,18 +23,18 @@ module _ (buffer eight : List ℕ) (bytes at i : ℕ) (is : eight ≡ buffer_of 
   size : length eight ≡ 8
   size = ap length is ∙ eight_bytes bytes
 
-  pub one-stored : i < 8
+  pub one_stored : i < 8
       → sets buffer (at + i) (drop i eight) ≡ sets (set buffer (at + i) (get_or eight i 0)) (at + (i + 1)) (drop (i + 1) eight)
-  one-stored more =
+  one_stored more =
       let inside : i < length eight = omega (arith, more, size) in
       let next : at + (i + 1) ≡ suc (at + i) = omega arith in
       rw (next, add-one, drop-cons eight i 0 inside)
 
-  pub all-stored : 8 ≤ i → sets buffer (at + i) (drop i eight) ≡ buffer
-  all-stored end = let past : length eight ≤ i = omega (arith, end, size) in rw (drop_of_length-le eight past)
+  pub all_stored : 8 ≤ i → sets buffer (at + i) (drop i eight) ≡ buffer
+  all_stored end = let past : length eight ≤ i = omega (arith, end, size) in rw (drop_of_length-le eight past)
 
 module _ (numbers : List ℕ) where
-  pub five-stored :
+  pub five_stored :
       sets
       (sets
       (sets
@@ -47,7 +47,7 @@ module _ (numbers : List ℕ) where
       (eight_of numbers 4)
       ≡ long_buffer_of numbers
   unfolding buffer_of long_buffer_of
-  five-stored = refl
+  five_stored = refl
 
   forty_bytes : length (long_buffer_of numbers) ≡ 40
   unfolding buffer_of long_buffer_of

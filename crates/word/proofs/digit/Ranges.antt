@@ -57,9 +57,9 @@ module _ (radix f l : ℕ) where
 
 -- the law, of the two distances as a wrapping subtraction gives them
 module _ (c radix f l : ℕ) (byte : c < 256) (small : radix < 256) where
-  pub told-by-range : f ≡ figure c → l ≡ letter c → (ltb f (min radix 10) || ltb l (min (radix - 10) 26)) ≡ is_digit c radix
+  pub told_by_range : f ≡ figure c → l ≡ letter c → (ltb f (min radix 10) || ltb l (min (radix - 10) 26)) ≡ is_digit c radix
   unfolding is_digit digit_value
-  told-by-range ef el = rw (ef, el) (go (among 48 57 c) (among 65 90 c) (among 97 122 c) refl refl refl (all_apart c byte)) where
+  told_by_range ef el = rw (ef, el) (go (among 48 57 c) (among 65 90 c) (among 97 122 c) refl refl refl (all_apart c byte)) where
     go : (x y z : Bool) → among 48 57 c ≡ x → among 65 90 c ≡ y → among 97 122 c ≡ z → apart c ≡ true
         → (ltb (figure c) (min radix 10) || ltb (letter c) (min (radix - 10) 26))
         ≡ below (cond (among 48 57 c) (some (c - 48)) (cond (among 65 90 c) (some (c - 65 + 10)) (cond (among 97 122 c) (some (c - 97 + 10)) none))) radix
@@ -92,4 +92,4 @@ pub told_by_figure : (c radix f : ℕ) → c < 256 → radix ≤ 10 → f ≡ fi
 told_by_figure c radix f byte small ef =
     let figures : min radix 10 ≡ radix = omega arith in
     let none : ltb (letter c) (min (radix - 10) 26) ≡ false = le-ltb (letter c) (min (radix - 10) 26) (omega arith) in
-    sym (or_false (ltb f radix)) ∙ rw (figures, none) at (told-by-range c radix f (letter c) byte (omega arith) ef refl)
+    sym (or_false (ltb f radix)) ∙ rw (figures, none) at (told_by_range c radix f (letter c) byte (omega arith) ef refl)

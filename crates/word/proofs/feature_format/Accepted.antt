@@ -1,12 +1,11 @@
 -- What a word has that the full check accepts, for demand 3 of the reader: its separator is no digit (line 4), and no reader has the
 -- consecutive flag alone (lines 12 to 14). Assumes nothing.
-use Rattle.std.proofs.Common.{◌≡◌, ℕ, zero, suc, ◌≤◌, max, Bool, true, false, cond, not, ◌&&◌, ◌||◌, eqb, ltb, List, [], ◌∷◌, ◌++◌, refl, arith, ltb-false, le-ltb}
+use Rattle.std.proofs.Common.{◌≡◌, ℕ, zero, suc, ◌≤◌, max, Bool, true, false, not, List, [], ◌∷◌, ◌++◌, refl, arith, ltb-false, le-ltb}
 use mathlib.Core.Option.{Option, some, none}
 use borrow.Author.Tests.{not-true}
 use Rattle.word.specs.declared.format_flags.Format.{Format}
 use Rattle.word.specs.Word.{digit_separator, base_prefix, base_suffix, mantissa_radix, exponent_radix}
 use Rattle.word.specs.Digit.{digit_value, below, is_digit}
-use Rattle.word.specs.Ascii.{valid_ascii}
 use Rattle.word.specs.Check.{line, first_failing, valid_control_in, valid_control, valid_punctuation, consecutive_alone, radix_lines, control_lines, flag_lines, consecutive_lines, full_check}
 
 -- where no line of a list fails, none of its parts fails
@@ -43,18 +42,18 @@ module _ (f : Format) (accepted : full_check f ≡ 0) where
       (line_holds 3 (valid_control f (digit_separator f)) rest lines_4_on.0).0
 
   -- of no radix up to the larger of the two
-  pub separator-no-digit : (radix : ℕ) → radix ≤ max (mantissa_radix f) (exponent_radix f) → is_digit (digit_separator f) radix ≡ false
+  pub separator_no_digit : (radix : ℕ) → radix ≤ max (mantissa_radix f) (exponent_radix f) → is_digit (digit_separator f) radix ≡ false
   unfolding valid_control is_digit
-  separator-no-digit radix h =
+  separator_no_digit radix h =
       less_below (digit_value (digit_separator f)) radix (max (mantissa_radix f) (exponent_radix f)) h
       (no_digit (max (mantissa_radix f) (exponent_radix f)) (digit_separator f) valid_separator)
 
   lines_12_on : first_failing (consecutive_lines f) ≡ 0
   lines_12_on = (both_hold (flag_lines f) (consecutive_lines f) lines_4_on.1).1
 
-  pub none-alone : (consecutive_alone f 0 ≡ false) × (consecutive_alone f 1 ≡ false) × (consecutive_alone f 2 ≡ false)
+  pub none_alone : (consecutive_alone f 0 ≡ false) × (consecutive_alone f 1 ≡ false) × (consecutive_alone f 2 ≡ false)
   unfolding consecutive_lines
-  none-alone =
+  none_alone =
       let at : (ℕ → Bool) = λ reader. not (consecutive_alone f reader) in
       let a = line_holds 11 (at 0) (line 13 (at 1) ∷ line 14 (at 2) ∷ []) lines_12_on in
       let b = line_holds 12 (at 1) (line 14 (at 2) ∷ []) a.1 in

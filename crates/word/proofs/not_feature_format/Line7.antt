@@ -1,8 +1,7 @@
 -- A theorem: line 7 of the full check cannot arise in the plain one (document 01, "Without separators"). The crate's plain check
 -- tests it after line 6, and the answer is the same without it. Assumes nothing.
-use Rattle.std.proofs.Common.{◌≡◌, ℕ, Bool, true, false, not, ◌&&◌, ◌||◌, eqb, List, [], ◌∷◌, ◌++◌, refl}
+use Rattle.std.proofs.Common.{◌≡◌, ℕ, Bool, true, false, ◌&&◌, ◌||◌, List, [], ◌∷◌, ◌++◌, refl}
 use Rattle.word.specs.declared.format_flags.Format.{Format}
-use Rattle.word.specs.Word.{digit_separator, base_prefix, base_suffix}
 use Rattle.word.specs.Check.{line, first_failing, valid_punctuation, radix_lines, plain_control_lines, plain_flags, plain_check}
 use Rattle.word.proofs.Lines.{joined}
 

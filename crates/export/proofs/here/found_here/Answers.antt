@@ -1,0 +1,46 @@
+-- `export::here::found_here` meets its contract: each test in its turn. Assumes nothing.
+use Rattle.export.proofs.here.Tests.{low, here_unserved, here_unclear, here_outside, here_end, here_separator, here_byte}
+use Rattle.export.proofs.here.found_here.Goals as goal
+
+pub returns-then-reader-edition : goal.returns-then-reader-edition
+returns-then-reader-edition c = let a = c.args in here_unserved a.reader a.state.now a.s.now c.if-reader-edition.true
+
+pub own_bits-own-requires : goal.own_bits-own-requires
+own_bits-own-requires c = let a = c.args in low a.reader a.state.now a.s.now c.if-reader-edition.false
+
+pub returns-then-is_alone-counts_fit : goal.returns-then-is_alone-counts_fit
+returns-then-is_alone-counts_fit c =
+    let a = c.args in
+    let own = c.own_bits-own.ensures in
+    here_unclear a.reader a.state.now a.s.now c.if-reader-edition.false own.small _ _
+    (rw own.shifted at c.is_alone.ensures) c.counts_fit.ensures c.if-is_alone-counts_fit.true
+
+pub returns-then-s-at : goal.returns-then-s-at
+returns-then-s-at c =
+    let a = c.args in
+    let own = c.own_bits-own.ensures in
+    here_outside a.reader a.state.now a.s.now c.if-reader-edition.false own.small _ _
+    (rw own.shifted at c.is_alone.ensures) c.counts_fit.ensures c.if-is_alone-counts_fit.false c.if-s-at.true
+
+pub returns-then-s-at-2 : goal.returns-then-s-at-2
+returns-then-s-at-2 c =
+    let a = c.args in
+    let own = c.own_bits-own.ensures in
+    here_end a.reader a.state.now a.s.now c.if-reader-edition.false own.small _ _
+    (rw own.shifted at c.is_alone.ensures) c.counts_fit.ensures c.if-is_alone-counts_fit.false c.if-s-at.false c.if-s-at-2.true
+
+pub returns-then-b-digit_separator : goal.returns-then-b-digit_separator
+returns-then-b-digit_separator c =
+    let a = c.args in
+    let own = c.own_bits-own.ensures in
+    here_separator a.reader a.state.now a.s.now c.if-reader-edition.false own.small _ _
+    (rw own.shifted at c.is_alone.ensures) c.counts_fit.ensures c.if-is_alone-counts_fit.false c.if-s-at.false c.if-s-at-2.false
+    (rw c.digit_separator.ensures at c.if-b-digit_separator.true)
+
+pub returns : goal.returns
+returns c =
+    let a = c.args in
+    let own = c.own_bits-own.ensures in
+    here_byte a.reader a.state.now a.s.now c.if-reader-edition.false own.small _ _
+    (rw own.shifted at c.is_alone.ensures) c.counts_fit.ensures c.if-is_alone-counts_fit.false c.if-s-at.false c.if-s-at-2.false
+    (rw c.digit_separator.ensures at c.if-b-digit_separator.false)

@@ -1,0 +1,10 @@
+-- `export::read::take_here` meets its contract. Assumes nothing.
+use mathlib.Core.Path.{refl}
+use Rattle.export.proofs.read.take_here.Goals as goal
+
+pub returns : goal.returns
+returns c = rw (c.put_at.ensures, c.wide-byte.ensures) (record {
+  number = refl;
+  moved = refl;
+  written = refl;
+})

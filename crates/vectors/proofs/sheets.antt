@@ -1,2 +1,0 @@
--- A recorded act on a catalogue made again (src/sheets.rt).
-mod Changes
