@@ -13,29 +13,28 @@
 RT := $(shell tools/find-rt)
 PAWHETINO_LIB ?= target/staticlib/libexport.a
 
-.PHONY: run test compare mutants boundary-valgrind boundary-sanitize fuzz replay bench growth lib harness record
+.PHONY: run test compare mutants boundary-valgrind boundary-sanitize fuzz replay bench growth lib harness record always
 
 # What is said while the program is built goes to standard error: standard output is the script's.
-run:
-	@tools/need-rt
-	@$(RT) check script >&2 </dev/null
+run: target/bin/script
 	@target/bin/script
+
+# rt tells whether anything has changed since.
+target/bin/script target/bin/vectors: always
+	@tools/build $(@F)
 
 test:
 	@tools/gate
 
-replay:
-	@tools/need-rt
-	$(RT) check vectors script
+replay: target/bin/vectors target/bin/script
 	target/bin/vectors < crates/vectors/stdin
 	tools/replay-scripts target/bin/script harness/scripts.txt
 
 lib: target/staticlib/libexport.a
 
 # It is proved again only where one of the files that it is made of has changed, or a folder has one more or less.
-target/staticlib/libexport.a: $(RT) crates.txt $(shell find crates/word crates/reader crates/cells crates/catalogue crates/export \( -name must-fail -o -name refused \) -prune -o -print)
-	@tools/need-rt
-	$(RT) staticlib export
+target/staticlib/libexport.a: $(RT) crates.txt $(shell find $(foreach crate,word reader cells catalogue export,$(wildcard $(addprefix crates/$(crate)/,src specs proofs))))
+	@tools/build export
 
 harness: lib
 	harness/build
@@ -48,7 +47,7 @@ compare: harness
 mutants:
 	@tools/need-rt
 	tools/test/test-mutants
-	$(RT) check
+	$(RT) all check
 	tools/mutants --n $(or $(N),40) --seed $(or $(SEED),1) --crate '$(CRATE)' --file '$(FILE)' --function '$(FUNCTION)'
 
 # Fewer inputs than in the gate: a function takes some twenty times as long here.
@@ -73,8 +72,7 @@ fuzz: lib
 keep = $(2) > $(1); status=$$?; cat $(1); exit $$status
 
 # tools/put-figures puts what these keep into docs/BENCHMARKS.md.
-bench: harness
-	$(RT) check script
+bench: harness target/bin/script
 	@$(call keep,target/bench.md,target/harness/harness bench --chart docs/benchmarks.svg)
 	@$(call keep,target/bench-catalogue.md,target/harness/harness bench-catalogue)
 	@$(call keep,target/bench-script.md,target/harness/harness bench-script)

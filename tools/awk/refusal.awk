@@ -1,33 +1,39 @@
-# Why the prover refuses an edit, from what it printed. Prints the place of the first fact that fails, unless there is an error of
-# form: a need, field or name that is not there, a need that the proof does not answer, a definition or contract that cannot be read.
-# Such an error shows that the text has another shape, and nothing about its answers; it is printed instead, with exit status 1. Where
-# there is neither, nothing is printed, and the exit status is 1 too.
+# What rt says of each must-fail edit, as a line 'edit NAME/LABEL: refused, first at PLACE' where a fact fails, and else
+# 'edit NAME/LABEL: FAILED: WHY', with the prover's further lines below it.
 #
-# An error is a line with a place and the indented lines below it. That something else was not admitted follows from another error.
+# rt tells the first line of the prover that says more than that a proof file names what is gone. A fact fails where that is a goal
+# that is not proved, or an answer that does not prove its goal. A text of src/ or specs/ that cannot be read, or an answer that names
+# what is not there, shows that the text has another form, and nothing about what it answers.
 
-function end_error() {
-    if (text == "") return
-    if (text ~ /has no ([a-z]+ )*`|is not in scope|but this has type `tie\.Need-/ || unreadable) {
-        if (form == "") form = place
-    } else if (text !~ /was not admitted/) {
-        if (fact == "") fact = place
-    }
-    text = ""
+BEGIN {
+    intro = "rt: must-fail "
+    well = "refused, as it must be"
+    gone = "has no ([a-z]+ )*`|that can be named from here|is not in scope|is no name|was not admitted"
 }
 
-/^ / && text != "" { text = text $0; next }
-{ end_error() }
-match($0, /[^ ]*\.(antt|rt):[0-9]+:[0-9]+: (error: |it is not proved)/) {
-    text = $0
-    place = substr($0, RSTART, RLENGTH)
-    sub(/.*\/(crates\/[^\/]*|must-fail\/[^\/]*\/[^\/]*)\//, "", place)
-    unreadable = place ~ /^(src|specs)\/.*: error: $/
-    sub(/: (error: |it is not proved)$/, "", place)
+# is_fact PLACE IS_NOTE WORDS
+function is_fact(place, is_note, words) {
+    if (is_note) return words ~ /^it is not proved/
+    return place ~ /^proofs\// && words ~ /^error: / && words !~ gone
 }
 
-END {
-    end_error()
-    if (form != "") print "for its form, at " form
-    else if (fact != "") print fact
-    exit form != "" || fact == ""
+# judged SAID: what rt's words about an edit come to
+function judged(said,    place, words, is_note) {
+    if (index(said, well) != 1) return "FAILED: " said
+    said = substr(said, length(well) + 1)
+    if (!match(said, /^: (note: )?(\.\/)?[^ ]+\.(antt|rt):[0-9]+:[0-9]+: /)) return "FAILED: refused without a fact that fails" said
+    place = substr(said, 3, RLENGTH - 4)
+    words = substr(said, RLENGTH + 1)
+    is_note = sub(/^note: /, "", place)
+    sub(/^\.\//, "", place)
+    return is_fact(place, is_note, words) ? "refused, first at " place : "FAILED: refused for its form, at " place ": " words
 }
+
+match($0, /^rt: must-fail [^ ]+\.edit: /) {
+    label = substr($0, length(intro) + 1, RLENGTH - length(intro ".edit: "))
+    verdict = judged(substr($0, RLENGTH + 1))
+    print "edit " label ": " verdict
+    next
+}
+verdict ~ /^FAILED/ && /^(\.\/)?(src|specs|proofs)\// { print "    " $0; next }
+{ verdict = "" }
