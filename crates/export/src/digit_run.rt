@@ -146,11 +146,13 @@ fn grouped_run(s: &[u8], separator: u8) -> GroupedRun
             if s.len() <= n {
                 return not_grouped();
             }
-            if at == 0 {
+            let early = at == 0;
+            if early {
                 return not_grouped();
             }
             let c = s[n];
-            if c == separator {
+            let double = c == separator;
+            if double {
                 return not_grouped();
             }
             if !char_is_digit_by_range(c, 10) {
@@ -186,7 +188,8 @@ pub extern "C" fn pawhetino_digit_run(
 {
     let cursor = state[2];
     let edition = state[7];
-    if (2 < reader) | (cursor != 0) | (edition != 0) {
+    let other = (2 < reader) | (cursor != 0) | (edition != 0);
+    if other {
         return digit_run_any(&s[..], reader, &mut *state, &mut *answer);
     }
     let integer = state[3];
@@ -199,13 +202,15 @@ pub extern "C" fn pawhetino_digit_run(
     let hi = state[1];
     let format = Format { lo, hi };
     let separator = format.digit_separator();
-    if separator == 0 {
+    let unset = separator == 0;
+    if unset {
         return digit_run_any(&s[..], reader, &mut *state, &mut *answer);
     }
     if !has_internal(format, reader) {
         return digit_run_any(&s[..], reader, &mut *state, &mut *answer);
     }
-    if radix_of(format) != 10 {
+    let lettered = radix_of(format) != 10;
+    if lettered {
         return digit_run_any(&s[..], reader, &mut *state, &mut *answer);
     }
     let grouped = grouped_run(s, separator);

@@ -89,11 +89,13 @@ fn grouped_cell(s: &[u8], separator: u8, radix: u8) -> Grouped
         if s.len() <= n {
             return not_grouped(false);
         }
-        if count == 0 {
+        let early = count == 0;
+        if early {
             return not_grouped(false);
         }
         let c = s[n];
-        if c == separator {
+        let double = c == separator;
+        if double {
             return not_grouped(true);
         }
         if !char_is_digit_by_range(c, radix) {
@@ -172,7 +174,8 @@ pub extern "C" fn pawhetino_next_all(
 {
     let cursor = state[2];
     let edition = state[7];
-    if (2 < reader) | (cursor != 0) | (edition != 0) {
+    let other = (2 < reader) | (cursor != 0) | (edition != 0);
+    if other {
         return next_all_any(&s[..], reader, &mut *state, &mut *answer);
     }
     let integer = state[3];

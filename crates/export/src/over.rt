@@ -55,7 +55,8 @@ fn is_over(s: &[u8], reader: u8, state: &[u64; 8]) -> bool
         return false;
     }
     let c = s[next];
-    if c == separator {
+    let double = c == separator;
+    if double {
         return false;
     }
     char_is_digit_by_range(c, radix_of(format))

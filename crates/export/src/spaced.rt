@@ -30,7 +30,8 @@ fn spaced_cell(s: &[u8], separator: u8, radix: u8) -> Grouped
             at += 1;
             continue;
         }
-        if count == 0 {
+        let early = count == 0;
+        if early {
             return not_grouped(false);
         }
         let end = search_run(s, separator, at).end;

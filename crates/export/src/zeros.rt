@@ -91,7 +91,8 @@ pub extern "C" fn pawhetino_skip_zeros(
     let here = found_here(s, reader, &*state);
     match here {
         Here::Byte(b) => {
-            if b == 48 {
+            let zero = b == 48;
+            if zero {
                 return skip_any(&s[..], reader, &mut *state, &mut *answer);
             }
             answer_no_zeros(&mut *state, &mut *answer)

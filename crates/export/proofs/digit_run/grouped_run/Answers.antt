@@ -23,17 +23,17 @@ pub returns-then-s-n : goal.returns-then-s-n
 returns-then-s-n c =
     rw c.not_grouped.ensures (λ so. absurd (false≢true so))
 
-pub returns-then-at-eq0 : goal.returns-then-at-eq0
-returns-then-at-eq0 c =
-    rw c.not_grouped-then-at-eq0.ensures (λ so. absurd (false≢true so))
+pub returns-then-early : goal.returns-then-early
+returns-then-early c =
+    rw c.not_grouped-then-early.ensures (λ so. absurd (false≢true so))
 
 pub bounds-s-n : goal.bounds-s-n
 bounds-s-n c =
     omega arith
 
-pub returns-then-c-separator : goal.returns-then-c-separator
-returns-then-c-separator c =
-    rw c.not_grouped-then-c-separator.ensures (λ so. absurd (false≢true so))
+pub returns-then-double : goal.returns-then-double
+returns-then-double c =
+    rw c.not_grouped-then-double.ensures (λ so. absurd (false≢true so))
 
 pub returns-then-not-char_is_digit_by_range : goal.returns-then-not-char_is_digit_by_range
 returns-then-not-char_is_digit_by_range c =
@@ -53,8 +53,8 @@ loop-at-preserved-then-b-separator c =
     let i = c.loop-at.invariant in
     let inside = c.loop-at-test.true in
     let more = c.if-s-n.false in
-    let begun = c.if-at-eq0.false in
-    (omega (arith, more), omega (arith, i.1, begun), λ x f r b. grouped_passes a.separator a.s.now x f r b c.loop-at.at c.loop-at.value c.loop-at.passed i.1 (i.2 x f r b) inside c.if-b-separator.true more c.if-c-separator.false (sym c.char_is_digit_by_range.ensures ∙ not-false _ c.if-not-char_is_digit_by_range.false-raw) begun)
+    let begun = c.if-early.false in
+    (omega (arith, more), omega (arith, i.1, begun), λ x f r b. grouped_passes a.separator a.s.now x f r b c.loop-at.at c.loop-at.value c.loop-at.passed i.1 (i.2 x f r b) inside c.if-b-separator.true more c.if-double.false (sym c.char_is_digit_by_range.ensures ∙ not-false _ c.if-not-char_is_digit_by_range.false-raw) begun)
 
 pub grouped-requires : goal.grouped-requires
 grouped-requires c =

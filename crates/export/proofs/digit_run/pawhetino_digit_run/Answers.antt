@@ -17,7 +17,7 @@ has_internal-requires c =
     let other = ltb 2 a.reader in
     let moved = not (eqb (get_or w 2 0) 0) in
     let edition = not (eqb (get_or w 7 0) 0) in
-    let t1 : ((other || moved) || edition) ≡ false = c.if-reader-cursor.false in
+    let t1 : ((other || moved) || edition) ≡ false = c.if-other.false in
     ltb-false 2 a.reader (left_fails other moved (left_fails (other || moved) edition t1))
 
 pub returns : goal.returns
@@ -27,7 +27,7 @@ returns c =
     let other = ltb 2 a.reader in
     let moved = not (eqb (get_or w 2 0) 0) in
     let edition = not (eqb (get_or w 7 0) 0) in
-    let t1 : ((other || moved) || edition) ≡ false = c.if-reader-cursor.false in
+    let t1 : ((other || moved) || edition) ≡ false = c.if-other.false in
     let n3 = not (eqb (get_or w 3 0) 0) in
     let n4 = not (eqb (get_or w 4 0) 0) in
     let n5 = not (eqb (get_or w 5 0) 0) in
@@ -45,8 +45,8 @@ returns c =
     (is_zero_lem (get_or w 4 0) (right_fails n3 n4 (left_fails (n3 || n4) n5 t2)))
     (is_zero_lem (get_or w 5 0) (right_fails (n3 || n4) n5 t2))
     grouped.result.at grouped.result.value grouped.result.count grouped.result.passed
-    (rw (sym separator.ensures) (omega (arith, c.if-separator-eq0.false)))
+    (rw (sym separator.ensures) (omega (arith, c.if-unset.false)))
     (sym internal.ensures ∙ not-false _ c.if-not-has_internal.false-raw)
-    (sym c.radix_of.ensures ∙ c.if-radix_of-ne10.false)
+    (sym c.radix_of-lettered.ensures ∙ c.if-lettered.false)
     (rw separator.ensures at run)
     a.answer.now)

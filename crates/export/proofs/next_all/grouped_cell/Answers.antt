@@ -47,8 +47,8 @@ returns-then-s-n c = rw c.not_grouped.ensures (record {
   cell = λ e. absurd (false≢true e);
 })
 
-pub returns-then-count-eq0 : goal.returns-then-count-eq0
-returns-then-count-eq0 c = rw c.not_grouped-then-count-eq0.ensures (record {
+pub returns-then-early : goal.returns-then-early
+returns-then-early c = rw c.not_grouped-then-early.ensures (record {
   fits = omega arith;
   cell = λ e. absurd (false≢true e);
 })
@@ -56,8 +56,8 @@ returns-then-count-eq0 c = rw c.not_grouped-then-count-eq0.ensures (record {
 pub bounds-s-n : goal.bounds-s-n
 bounds-s-n c = omega arith
 
-pub returns-then-c-separator : goal.returns-then-c-separator
-returns-then-c-separator c = rw c.not_grouped-then-c-separator.ensures (record {
+pub returns-then-double : goal.returns-then-double
+returns-then-double c = rw c.not_grouped-then-double.ensures (record {
   fits = omega arith;
   cell = λ e. absurd (false≢true e);
 })
@@ -86,7 +86,7 @@ loop-at-preserved c =
     let i = c.loop-at.invariant in
     let inside = c.loop-at-test.true in
     let more = c.if-s-n.false in
-    (omega (arith, more), omega (arith, i.1), omega (arith, i.2), λ x f r b. grouped_over a.separator a.radix a.s.now x f r b c.loop-at.at c.loop-at.count c.loop-at.passed (i.3 x f r b) inside c.if-b-separator.false more c.if-c-separator.false (sym c.char_is_digit_by_range.ensures ∙ not-false _ c.if-not-char_is_digit_by_range.false-raw) c.if-count-eq0.false)
+    (omega (arith, more), omega (arith, i.1), omega (arith, i.2), λ x f r b. grouped_over a.separator a.radix a.s.now x f r b c.loop-at.at c.loop-at.count c.loop-at.passed (i.3 x f r b) inside c.if-b-separator.false more c.if-double.false (sym c.char_is_digit_by_range.ensures ∙ not-false _ c.if-not-char_is_digit_by_range.false-raw) c.if-early.false)
 
 pub returns : goal.returns
 returns c =

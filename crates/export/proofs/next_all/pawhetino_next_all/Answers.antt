@@ -16,13 +16,13 @@ has_internal-requires c =
     let other = ltb 2 a.reader in
     let moved = not (eqb (get_or w 2 0) 0) in
     let edition = not (eqb (get_or w 7 0) 0) in
-    let t1 : ((other || moved) || edition) ≡ false = c.if-reader-cursor.false in
+    let t1 : ((other || moved) || edition) ≡ false = c.if-other.false in
     ltb-false 2 a.reader (left_fails other moved (left_fails (other || moved) edition t1))
 
 pub next_all_runs-requires : goal.next_all_runs-requires
 next_all_runs-requires c =
     let a = c.args in
-    fresh_words_lem a.reader a.state.now c.if-reader-cursor.false c.if-integer-fraction.false
+    fresh_words_lem a.reader a.state.now c.if-other.false c.if-integer-fraction.false
     _ c.digit_separator-separator.ensures (λ z. c.if-separator-eq0.false z) _ c.has_internal.ensures c.if-not-has_internal.false-raw
 
 pub put_end-requires : goal.put_end-requires
@@ -31,7 +31,7 @@ put_end-requires c = c.grouped_cell-grouped.ensures.fits
 pub returns : goal.returns
 returns c =
     let a = c.args in
-    let fresh = fresh_words_lem a.reader a.state.now c.if-reader-cursor.false c.if-integer-fraction.false
+    let fresh = fresh_words_lem a.reader a.state.now c.if-other.false c.if-integer-fraction.false
     _ c.digit_separator-separator.ensures (λ z. c.if-separator-eq0.false z) _ c.has_internal.ensures c.if-not-has_internal.false-raw in
     let g = c.grouped_cell-grouped in
     let cell = g.ensures.cell (not-false _ c.if-not-grouped.false) in

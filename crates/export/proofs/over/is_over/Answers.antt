@@ -16,12 +16,12 @@ pub returns-then-s-next : goal.returns-then-s-next
 unfolding is_over
 returns-then-s-next c = rw (rw c.digit_separator-separator.ensures at c.if-separator-count.false, rw c.has_internal.ensures at c.if-not-has_internal.false-raw, le-leb _ _ c.if-s-next.true)
 
-pub returns-then-c-separator : goal.returns-then-c-separator
+pub returns-then-double : goal.returns-then-double
 unfolding is_over
-returns-then-c-separator c = rw (rw c.digit_separator-separator.ensures at c.if-separator-count.false, rw c.has_internal.ensures at c.if-not-has_internal.false-raw, lt-leb _ _ c.if-s-next.false, eq-eqb _ _ (rw c.digit_separator-separator.ensures at c.if-c-separator.true))
+returns-then-double c = rw (rw c.digit_separator-separator.ensures at c.if-separator-count.false, rw c.has_internal.ensures at c.if-not-has_internal.false-raw, lt-leb _ _ c.if-s-next.false, eq-eqb _ _ (rw c.digit_separator-separator.ensures at c.if-double.true))
 
 pub returns : goal.returns
 unfolding is_over
 returns c =
-    rw (rw c.digit_separator-separator.ensures at c.if-separator-count.false, rw c.has_internal.ensures at c.if-not-has_internal.false-raw, lt-leb _ _ c.if-s-next.false, ne_eqb _ _ (rw c.digit_separator-separator.ensures at c.if-c-separator.false))
+    rw (rw c.digit_separator-separator.ensures at c.if-separator-count.false, rw c.has_internal.ensures at c.if-not-has_internal.false-raw, lt-leb _ _ c.if-s-next.false, ne_eqb _ _ (rw c.digit_separator-separator.ensures at c.if-double.false))
     (c.char_is_digit_by_range.ensures ∙ rw c.radix_of.ensures)

@@ -40,8 +40,8 @@ loop-at-preserved-then-b-separator c =
     let counted : c.count_past-count.result ≤ c.loop-at.count + 1 = rw c.count_past-count.ensures (at_most (is_digit (get_or a.s.now c.loop-at.at 0) a.radix) c.loop-at.count) in
     (omega (arith, inside), omega (arith, counted, i.1), omega (arith, i.2), λ x f r b together. rw c.count_past-count.ensures (grouped_on a.separator a.radix a.s.now x f r b c.loop-at.at c.loop-at.count c.loop-at.passed (i.3 x f r b together) inside c.if-b-separator.true))
 
-pub returns-then-count-eq0 : goal.returns-then-count-eq0
-returns-then-count-eq0 c = rw c.not_grouped.ensures (record {
+pub returns-then-early : goal.returns-then-early
+returns-then-early c = rw c.not_grouped.ensures (record {
   fits = omega arith;
   cell = λ e. absurd (false≢true e);
 })
@@ -89,7 +89,7 @@ loop-at-preserved c =
     let more = c.if-s-end.false in
     let ends = ap (λ (f : RunSearch). f.end) c.search_run-end.ensures in
     let past = goes_on a.separator true a.s.now c.loop-at.at inside c.requires c.if-b-separator.false _ ends in
-    (omega (arith, more), omega (arith, i.1, past), omega (arith, i.2, past), λ x f r b together. spaced_over a.separator a.radix a.s.now x f r b c.loop-at.at c.loop-at.count c.loop-at.passed (i.3 x f r b together) together inside c.if-b-separator.false _ ends more (sym c.char_is_digit_by_range.ensures ∙ not-false _ c.if-not-char_is_digit_by_range.false-raw) c.if-count-eq0.false)
+    (omega (arith, more), omega (arith, i.1, past), omega (arith, i.2, past), λ x f r b together. spaced_over a.separator a.radix a.s.now x f r b c.loop-at.at c.loop-at.count c.loop-at.passed (i.3 x f r b together) together inside c.if-b-separator.false _ ends more (sym c.char_is_digit_by_range.ensures ∙ not-false _ c.if-not-char_is_digit_by_range.false-raw) c.if-early.false)
 
 pub returns : goal.returns
 returns c =

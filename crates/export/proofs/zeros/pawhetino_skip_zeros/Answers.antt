@@ -5,11 +5,11 @@ use Rattle.export.proofs.here.Sight.{byte_sight, end_sight}
 use Rattle.export.proofs.here.Calls.{skipped_other, skipped_end}
 use Rattle.export.proofs.zeros.pawhetino_skip_zeros.Goals as goal
 
-pub returns-else-b-eq48 : goal.returns-else-b-eq48
-returns-else-b-eq48 c =
+pub returns-else-zero : goal.returns-else-zero
+returns-else-zero c =
     let a = c.args in
     let here = byte_sight a.reader a.state.now a.s.now _ c.found_here-here.ensures _ c.in-Byte.is in
-    rw (skipped_other a.reader a.state.now a.s.now _ here (ne_eqb _ _ c.if-b-eq48.false)) c.answer_no_zeros.ensures
+    rw (skipped_other a.reader a.state.now a.s.now _ here (ne_eqb _ _ c.if-zero.false)) c.answer_no_zeros.ensures
 
 pub returns-in-End : goal.returns-in-End
 returns-in-End c =
