@@ -16,7 +16,8 @@ use word::format_flags::Format;
 fn uses_separator(format: Format) -> u64
     ensures { (result ≡ uses format) × (result ≤ 1) }
 {
-    if format.digit_separator() == 0 {
+    let unset = format.digit_separator() == 0;
+    if unset {
         return 0;
     }
     1
@@ -27,7 +28,8 @@ fn raise(tally: u64, more: u64) -> u64
     requires { more ≤ 1 }
     ensures { result ≡ raised tally more }
 {
-    if tally < 64 {
+    let grows = tally < 64;
+    if grows {
         return tally + more;
     }
     tally
@@ -89,7 +91,8 @@ fn add_checked(words: &mut [u64], school: u64, format: Format) -> Answer
     ensures number { answer_number result ≡ add_number (catalogue_in words.old) school format }
     ensures written { words.new ≡ words_of (added (catalogue_in words.old) school format) }
 {
-    if school == 0 {
+    let unnamed = school == 0;
+    if unnamed {
         return Answer::InvalidSchool;
     }
     let len = listed(&*words);
@@ -98,7 +101,8 @@ fn add_checked(words: &mut [u64], school: u64, format: Format) -> Answer
     if known {
         return Answer::InvalidSchool;
     }
-    if len < 64 {
+    let room = len < 64;
+    if room {
         let sheet = Entry { school, format };
         insert(&mut *words, len, at, sheet);
         return Answer::Accepted;

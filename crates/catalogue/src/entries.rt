@@ -22,7 +22,8 @@ pub(crate) fn listed(words: &[u64]) -> usize
     ensures { (result ≡ size (catalogue_in words.now)) × (result ≤ 64) }
 {
     let used = words[0];
-    if used < 64 {
+    let fits = used < 64;
+    if fits {
         return used as usize;
     }
     64

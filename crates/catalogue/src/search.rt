@@ -49,7 +49,8 @@ fn past_eight(words: &[u64], at: usize, school: u64) -> usize
     ensures { result ≡ min 8 (before school (drop at (listing (catalogue_in words.now)))) }
 {
     let first = past_four(words, at, school);
-    if first < 4 {
+    let ends = first < 4;
+    if ends {
         return first;
     }
     let second = past_four(words, at + 4, school);

@@ -98,7 +98,8 @@ fn count_past(flags: Flags, count: usize) -> usize
     requires { count + 1 < 2 ^ 64 }
     ensures { result ≡ cond (has_any_flag flags) (count + 1) count }
 {
-    if flags.internal | flags.leading | flags.trailing | flags.consecutive {
+    let counts = flags.internal | flags.leading | flags.trailing | flags.consecutive;
+    if counts {
         return count + 1;
     }
     count

@@ -24,7 +24,8 @@ fn times_plus(value: u64, radix: u64, digit: u64) -> Grown
     requires { (radix < 256) × (digit < 256) }
     ensures { result ≡ grown_to (value * radix + digit) }
 {
-    if value < 72057594037927936 {
+    let small = value < 72057594037927936;
+    if small {
         return Grown {
             fits: true,
             value: value * radix + digit,
@@ -34,7 +35,8 @@ fn times_plus(value: u64, radix: u64, digit: u64) -> Grown
     let low = value % 4294967296;
     let below = low * radix + digit;
     let above = high * radix + below / 4294967296;
-    if above < 4294967296 {
+    let fits = above < 4294967296;
+    if fits {
         return Grown {
             fits: true,
             value: above * 4294967296 + below % 4294967296,

@@ -15,7 +15,7 @@ pub extern "C" fn pawhetino_run_end(
     eights: &mut usize,
     ones: &mut usize,
 )
-    ensures { record { end = end.exit.now; eights = eights.new; ones = ones.new } ≡ run_search_of separator s.now at }
+    ensures { record { end = end.new; eights = eights.new; ones = ones.new } ≡ run_search_of separator s.now at }
 {
     let found = search_run(s, separator, at);
     *end = found.end;

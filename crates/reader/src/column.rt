@@ -146,7 +146,8 @@ fn is_quick(s: &[u8], filled: bool, syntax: Syntax, reader: Reader) -> bool
     if !syntax.flags.consecutive {
         return true;
     }
-    if !filled {
+    let apart = !filled;
+    if apart {
         return false;
     }
     count_pairs(double_pairs(syntax), s) == 0

@@ -17,7 +17,8 @@ pub fn open(lo: u64, hi: u64) -> Opened
 {
     let format = Format { lo, hi };
     let number = format.error().number();
-    if number == 0 {
+    let accepted = number == 0;
+    if accepted {
         return Opened::Fresh(State::fresh(format));
     }
     Opened::Refused(number)

@@ -204,7 +204,8 @@ pub(crate) fn landing(s: &[u8], syntax: Syntax, first: bool, at: usize) -> usize
     if b != separator {
         return at;
     }
-    if separator == 0 {
+    let nothing = separator == 0;
+    if nothing {
         return at;
     }
     if !passes(s, syntax, first, at) {

@@ -340,7 +340,8 @@ fn unflagged_count(state: State, separator: u8) -> usize
     requires { count_sum state < 2 ^ 64 }
     ensures { result ≡ (if nat_eq separator 0 then state.cursor else count_sum state) }
 {
-    if separator == 0 {
+    let unset = separator == 0;
+    if unset {
         return state.cursor;
     }
     state.integer.0 + state.fraction.0 + state.exponent.0

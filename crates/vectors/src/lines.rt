@@ -35,7 +35,7 @@ impl Progress {
 
 // Takes in what one read gave.
 pub fn take_in(output: Stdout, chunk: &[u8], line: &mut [u8], mut progress: Progress) -> Progress
-    ensures { record { line = line.exit.now; progress = result } ≡ all_taken chunk.now (record { line = line.entry.now; progress = progress }) }
+    ensures { record { line = line.new; progress = result } ≡ all_taken chunk.now (record { line = line.old; progress = progress }) }
 {
     let mut i = 0;
     while i < chunk.len() {
@@ -48,7 +48,7 @@ pub fn take_in(output: Stdout, chunk: &[u8], line: &mut [u8], mut progress: Prog
 
 // A line that fills the buffer is too long to be a record: what follows of it is dropped.
 fn take_byte(output: Stdout, byte: u8, line: &mut [u8], mut progress: Progress) -> Progress
-    ensures { record { line = line.exit.now; progress = result } ≡ byte_taken byte (record { line = line.entry.now; progress = progress }) }
+    ensures { record { line = line.new; progress = result } ≡ byte_taken byte (record { line = line.old; progress = progress }) }
 {
     if byte == b'\n' {
         return end_line(output, line, progress);

@@ -151,7 +151,8 @@ fn radix_from_flags(format: Format, shift: u32) -> u32
     ensures { result ≡ radix_at format shift }
 {
     let radix = byte_at(format, shift);
-    if radix == 0 {
+    let absent = radix == 0;
+    if absent {
         mantissa_radix(format)
     } else {
         radix as u32

@@ -1,10 +1,10 @@
 -- `cells::digit_run::count_past` meets its contract. Assumes nothing.
 use Rattle.cells.proofs.digit_run.count_past.Goals as goal
 
-pub returns-then-flags : goal.returns-then-flags
-returns-then-flags c =
-    rw c.if-flags.true
+pub returns-then-counts : goal.returns-then-counts
+returns-then-counts c =
+    rw c.if-counts.true
 
 pub returns : goal.returns
 returns c =
-    rw c.if-flags.false
+    rw c.if-counts.false

@@ -15,8 +15,8 @@ overflow_add-result c =
     let a = c.args in
     omega (arith, times_fits 72057594037927935 a.value a.radix (omega arith) c.requires.0)
 
-pub returns-then-value-lt72057594037927936 : goal.returns-then-value-lt72057594037927936
-returns-then-value-lt72057594037927936 c =
+pub returns-then-small : goal.returns-then-small
+returns-then-small c =
     let a = c.args in
     fits_in (a.value * a.radix + a.digit) _ refl (omega (arith, times_fits 72057594037927935 a.value a.radix (omega arith) c.requires.0, c.requires.1))
 
@@ -40,8 +40,8 @@ overflow_add-above c =
     let a = c.args in
     omega (arith, times_fits 4294967295 (a.value % 4294967296) a.radix (omega arith) c.requires.0, times_fits 4294967295 (a.value / 4294967296) a.radix (omega arith) c.requires.0, c.requires.1)
 
-pub returns-then-above-lt4294967296 : goal.returns-then-above-lt4294967296
-returns-then-above-lt4294967296 c =
+pub returns-then-fits : goal.returns-then-fits
+returns-then-fits c =
     let a = c.args in
     let halves = by_halves a.value a.radix a.digit in
     fits_in _ _ (sym halves) (omega (arith, halves))

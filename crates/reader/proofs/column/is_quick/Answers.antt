@@ -14,16 +14,16 @@ returns-then-not-syntax c =
     let v = c.serves in
     rw (sym v.ensures, not-false v.result c.if-not-serves.false-raw, c.if-not-syntax.true)
 
-pub returns-then-not-filled : goal.returns-then-not-filled
+pub returns-then-apart : goal.returns-then-apart
 unfolding is_quick
-returns-then-not-filled c =
+returns-then-apart c =
     let v = c.serves in
     let a = c.args in
-    rw (sym v.ensures, not-false v.result c.if-not-serves.false-raw, c.if-not-syntax.false, not-true a.filled c.if-not-filled.true-raw)
+    rw (sym v.ensures, not-false v.result c.if-not-serves.false-raw, c.if-not-syntax.false, not-true a.filled c.if-apart.true-raw)
 
 pub returns : goal.returns
 unfolding is_quick
 returns c =
     let v = c.serves in
     let a = c.args in
-    rw (c.count_pairs.ensures.0, c.double_pairs.ensures, sym v.ensures, not-false v.result c.if-not-serves.false-raw, c.if-not-syntax.false, not-false a.filled c.if-not-filled.false-raw)
+    rw (c.count_pairs.ensures.0, c.double_pairs.ensures, sym v.ensures, not-false v.result c.if-not-serves.false-raw, c.if-not-syntax.false, not-false a.filled c.if-apart.false-raw)

@@ -1,48 +1,44 @@
 -- `vectors::call::answer_to` meets its contract. Assumes nothing.
-use mathlib.Core.Path.{◌∙◌, ap}
 use native.Mathlib.Omega.{arith}
 use borrow.Author.Tests.{ne_eqb}
-use Rattle.vectors.specs.declared.call.Repeated.TheVariants.{Packed}
-use Rattle.vectors.specs.Call.{packed_outcome, packed_read, packed_skip, packed_block, packed_part, packed_run, packed_value, answer_to}
+use Rattle.vectors.specs.Call.{answer_to}
 use Rattle.vectors.proofs.call.answer_to.Goals as goal
 
 pub returns-in-0 : goal.returns-in-0
 unfolding answer_to
-returns-in-0 c =
-    rw c.in-0.is
-    (ap Packed (c.pack.ensures ∙ ap packed_outcome (c.answer.ensures ∙ c.peek.ensures)))
+returns-in-0 c = rw c.in-0.is cc
 
 pub returns-in-1 : goal.returns-in-1
 unfolding answer_to
-returns-in-1 c = rw c.in-1.is (ap Packed (c.pack-in-1.ensures ∙ ap packed_outcome c.next.ensures))
+returns-in-1 c = rw c.in-1.is cc
 
 pub returns-in-2 : goal.returns-in-2
 unfolding answer_to
-returns-in-2 c = rw c.in-2.is (ap Packed (c.pack_read.ensures ∙ ap packed_read c.read_if_value_cased.ensures))
+returns-in-2 c = rw c.in-2.is cc
 
 pub returns-in-3 : goal.returns-in-3
 unfolding answer_to
-returns-in-3 c = rw c.in-3.is (ap Packed (c.pack-in-3.ensures ∙ ap packed_outcome c.next_all.ensures))
+returns-in-3 c = rw c.in-3.is cc
 
 pub returns-in-4 : goal.returns-in-4
 unfolding answer_to
-returns-in-4 c = rw c.in-4.is (ap Packed (c.pack_skip.ensures ∙ ap packed_skip c.skip_zeros.ensures))
+returns-in-4 c = rw c.in-4.is cc
 
 pub returns-in-5 : goal.returns-in-5
 unfolding answer_to
-returns-in-5 c = rw c.in-5.is (ap Packed (c.pack_block.ensures ∙ ap packed_block c.take_n.ensures))
+returns-in-5 c = rw c.in-5.is cc
 
 pub returns-in-6 : goal.returns-in-6
 unfolding answer_to
-returns-in-6 c = rw c.in-6.is (ap Packed (c.pack_part.ensures ∙ ap packed_part c.take_n_part.ensures.bytes))
+returns-in-6 c = rw c.in-6.is cc
 
 pub returns-in-7 : goal.returns-in-7
 unfolding answer_to
-returns-in-7 c = rw c.in-7.is (ap Packed (c.pack_run.ensures ∙ ap packed_run c.digit_run.ensures))
+returns-in-7 c = rw c.in-7.is cc
 
 pub returns-in-8 : goal.returns-in-8
 unfolding answer_to
-returns-in-8 c = rw c.in-8.is (ap Packed (c.pack_value.ensures ∙ ap packed_value c.digit_run-in-8.ensures))
+returns-in-8 c = rw c.in-8.is cc
 
 pub returns-in_default : goal.returns-in_default
 unfolding answer_to

@@ -3,12 +3,12 @@ use Rattle.std.proofs.Common.{◌≡◌, sym, arith, eq-eqb, ne_eqb}
 use Rattle.word.specs.Word.{radix_at}
 use Rattle.word.proofs.format_flags.radix_from_flags.Goals as goal
 
-pub returns-then-radix-eq0 : goal.returns-then-radix-eq0
+pub returns-then-absent : goal.returns-then-absent
 unfolding radix_at
-returns-then-radix-eq0 c =
-    let absent : c.byte_at-radix.result ≡ 0 = omega (arith, c.if-radix-eq0.true) in
+returns-then-absent c =
+    let absent : c.byte_at-radix.result ≡ 0 = omega (arith, c.if-absent.true) in
     rw (sym c.byte_at-radix.ensures, eq-eqb _ 0 absent) c.mantissa_radix.ensures
 
-pub returns-else-radix-eq0 : goal.returns-else-radix-eq0
+pub returns-else-absent : goal.returns-else-absent
 unfolding radix_at
-returns-else-radix-eq0 c = rw (sym c.byte_at-radix.ensures, ne_eqb _ _ c.if-radix-eq0.false)
+returns-else-absent c = rw (sym c.byte_at-radix.ensures, ne_eqb _ _ c.if-absent.false)
