@@ -27,7 +27,8 @@ test:
 	@tools/gate
 
 replay: target/bin/vectors target/bin/script
-	target/bin/vectors < crates/vectors/stdin
+	@$(call keep,target/replay,target/bin/vectors < crates/vectors/stdin)
+	cmp target/replay crates/vectors/stdout
 	tools/replay-scripts target/bin/script harness/scripts.txt
 
 lib: target/staticlib/libexport.a

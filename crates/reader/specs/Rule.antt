@@ -49,7 +49,7 @@ later false true true true p n = not n.digit
 later true true true true p n = true
 later false false false c p n = false
 
--- the table's cell for a reader with these flags: `isFirst` while its count is 0
+-- the table's cell for a reader with these flags: `is_first` while its count is 0
 unfoldable pub rule_of : Flags → Bool → Neighbour → Neighbour → Bool
 rule_of f is_first p n =
     cond is_first

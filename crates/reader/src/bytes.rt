@@ -1,5 +1,5 @@
 // `Bytes`: the caller's slice, kept beside the cursor's state. After lexical-util's Bytes. Each function takes the struct apart and
-// calls one on the slice and the state, which has the work; so the proofs here are walks by hand (proofs/bytes), and short.
+// calls one on the slice and the state, which has the work; so most need no proof file.
 ghost use Rattle.std.specs.Prelude.{◌≡◌};
 ghost use Rattle.reader.specs.Answer.{outcome_of, peek_outcome_of, read_outcome_of, skip_outcome_of, block_outcome_of, count_outcome_of};
 ghost use Rattle.reader.specs.Block.{BlockPart};
@@ -121,7 +121,7 @@ impl<'a> Bytes<'a> {
     }
 }
 
-// Takes to the end of a slice, from its start: for a caller with plain parameters, whose proof needs no walk.
+// Takes to the end of a slice, from its start: for a caller with plain parameters.
 pub fn take_to_end(s: &[u8], format: Format, reader: Reader) -> Report
     ensures { outcome_of (record { report = result; state = (whole_outcome s.now format reader).state }) ≡ whole_outcome s.now format reader }
 {

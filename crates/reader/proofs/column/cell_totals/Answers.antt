@@ -8,9 +8,6 @@ use Rattle.reader.proofs.state.Updates.{fresh_count, counted_at_most}
 use Rattle.reader.proofs.column.Cells.{cell_told}
 use Rattle.reader.proofs.column.cell_totals.Goals as goal
 
--- FIXME sub-t7 : tie.Need-overflow-sub-t7
--- FIXME sub-t7 c = search rules
-
 pub returns : goal.returns
 unfolding reading_with
 returns c =
