@@ -32,13 +32,20 @@ enum Number {
     Nothing,
 }
 
+fn letter_value(byte: u8) -> u64
+    requires { (65 ≤ byte) × (byte ≤ 70) }
+    ensures { result ≡ hex_value byte }
+{
+    (byte - b'A') as u64 + 10
+}
+
 // The value of an upper-case hex digit, and 16 for any other byte.
 fn hex_value(byte: u8) -> u64
     ensures { result ≡ hex_value byte }
 {
     match byte {
         b'0'..=b'9' => (byte - b'0') as u64,
-        b'A'..=b'F' => (byte - b'A') as u64 + 10,
+        b'A'..=b'F' => letter_value(byte),
         _ => RADIX,
     }
 }

