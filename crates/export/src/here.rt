@@ -86,7 +86,8 @@ pub(crate) fn found_here(s: &[u8], reader: u8, state: &[u64; 8]) -> Here
     let b = s[at];
     let hi = state[1];
     let format = Format { lo, hi };
-    let separates = b == format.digit_separator();
+    let separator = format.digit_separator();
+    let separates = b == separator;
     if separates {
         return Here::Separator;
     }

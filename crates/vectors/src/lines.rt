@@ -65,7 +65,8 @@ fn take_byte(output: Stdout, byte: u8, line: &mut [u8], mut progress: Progress) 
 pub fn finish(output: Stdout, line: &[u8], progress: Progress) -> Progress
     ensures { result ≡ finished line.now progress }
 {
-    if progress.filled == 0 {
+    let nothing = progress.filled == 0;
+    if nothing {
         return progress;
     }
     end_line(output, line, progress)

@@ -123,7 +123,8 @@ fn field_end(line: &[u8], at: usize) -> usize
 {
     let mut end = at;
     while end < line.len() {
-        if line[end] == b' ' {
+        let at_space = line[end] == b' ';
+        if at_space {
             return end;
         }
         end += 1;

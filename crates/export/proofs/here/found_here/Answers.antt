@@ -35,7 +35,7 @@ returns-then-separates c =
     let own = c.own_bits-own.ensures in
     here_separator a.reader a.state.now a.s.now c.if-reader-edition.false own.small _ _
     (rw own.shifted at c.is_alone.ensures) c.counts_fit.ensures c.if-is_alone-counts_fit.false c.if-s-at.false c.if-s-at-2.false
-    (rw c.digit_separator.ensures at c.if-separates.true)
+    (rw c.digit_separator-separator.ensures at c.if-separates.true)
 
 pub returns : goal.returns
 returns c =
@@ -43,4 +43,4 @@ returns c =
     let own = c.own_bits-own.ensures in
     here_byte a.reader a.state.now a.s.now c.if-reader-edition.false own.small _ _
     (rw own.shifted at c.is_alone.ensures) c.counts_fit.ensures c.if-is_alone-counts_fit.false c.if-s-at.false c.if-s-at-2.false
-    (rw c.digit_separator.ensures at c.if-separates.false)
+    (rw c.digit_separator-separator.ensures at c.if-separates.false)

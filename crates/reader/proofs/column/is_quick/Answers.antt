@@ -19,11 +19,11 @@ unfolding is_quick
 returns-then-apart c =
     let v = c.serves in
     let a = c.args in
-    rw (sym v.ensures, not-false v.result c.if-not-serves.false-raw, c.if-not-syntax.false, not-true a.filled c.if-apart.true-raw)
+    rw (sym v.ensures, not-false v.result c.if-not-serves.false-raw, c.if-not-syntax.false, c.if-apart.true)
 
 pub returns : goal.returns
 unfolding is_quick
 returns c =
     let v = c.serves in
     let a = c.args in
-    rw (c.count_pairs.ensures.0, c.double_pairs.ensures, sym v.ensures, not-false v.result c.if-not-serves.false-raw, c.if-not-syntax.false, not-false a.filled c.if-apart.false-raw)
+    rw (c.count_pairs.ensures.0, c.double_pairs.ensures, sym v.ensures, not-false v.result c.if-not-serves.false-raw, c.if-not-syntax.false, c.if-apart.false)

@@ -10,10 +10,10 @@ loop-end-init c = (refl, omega arith)
 pub bounds-line-end : goal.bounds-line-end
 bounds-line-end c = omega arith
 
-pub returns-then-line-end-eq32 : goal.returns-then-line-end-eq32
-returns-then-line-end-eq32 c =
+pub returns-then-at_space : goal.returns-then-at_space
+returns-then-at_space c =
     let line = c.args.line.now in
-    let here = at_space line c.loop-end.end (omega arith) c.if-line-end-eq32.true in
+    let here = at_space line c.loop-end.end (omega arith) c.if-at_space.true in
     (omega (arith, here), omega arith)
 
 pub overflow_add-end : goal.overflow_add-end
@@ -25,7 +25,7 @@ loop-end-smaller c = omega arith
 pub loop-end-preserved : goal.loop-end-preserved
 loop-end-preserved c =
     let line = c.args.line.now in
-    let on = before_space line c.loop-end.end (omega arith) c.if-line-end-eq32.false in
+    let on = before_space line c.loop-end.end (omega arith) c.if-at_space.false in
     (omega (arith, on), omega arith)
 
 pub returns : goal.returns
