@@ -2,12 +2,11 @@
 use mathlib.Core.Path.{◌≡◌, ◌∙◌, refl, sym, ap}
 use mathlib.Core.Bool.{Bool, true, false, cond}
 use mathlib.Core.List.{List, [], ◌∷◌}
-use mathlib.Core.Option.{some, none}
+use Rattle.std.specs.Prelude.{None, Some, slice_get}
 use Prim.Native.Nat.{ℕ, zero, suc, ◌≤◌, ◌<◌}
 use native.Mathlib.Omega.{arith}
 use borrow.Author.Tests.{eqb-true, eqb-false, ltb-true, ltb-false, eq-eqb, ne_eqb, lt-ltb, le-ltb}
 use lib.Dec.{eqb, ltb}
-use lib.ListN.{get_elem?}
 use Rattle.word.specs.declared.format_flags.Format.{Format}
 use Rattle.catalogue.specs.declared.entries.Entry.{Entry}
 use Rattle.catalogue.specs.Entries.{entry_of, look_up, inserted, without}
@@ -26,7 +25,7 @@ above_less m n [] h above = tt
 above_less m n (e ∷ l) h above = (omega (arith, above.0), above_less m n l h above.1)
 
 -- what is not above is not there
-above_none : (m n : ℕ) (l : List Entry) → m ≤ n → AllAbove n l → look_up m l ≡ none
+above_none : (m n : ℕ) (l : List Entry) → m ≤ n → AllAbove n l → look_up m l ≡ None
 above_none m n [] h above = refl
 above_none m n (e ∷ l) h above =
     rw (le-ltb e.school m (omega (arith, above.0)), ne_eqb e.school m (λ same. omega (arith, above.0, same)))
@@ -48,25 +47,25 @@ above_inserted n e (x ∷ l) h above = go (ltb x.school e.school) (above_inserte
   go true rest = (above.0, rest)
   go false rest = (h, above)
 
-pub ascends_inserted : (e : Entry) (l : List Entry) → look_up e.school l ≡ none → Ascending l → Ascending (inserted e l)
+pub ascends_inserted : (e : Entry) (l : List Entry) → look_up e.school l ≡ None → Ascending l → Ascending (inserted e l)
 ascends_inserted e [] new up = (tt, tt)
 ascends_inserted e (x ∷ l) new up = by_order x.school e.school (smaller (ascends_inserted e l)) same larger where
-  smaller : (look_up e.school l ≡ none → Ascending l → Ascending (inserted e l)) → ltb x.school e.school ≡ true → Ascending (inserted e (x ∷ l))
+  smaller : (look_up e.school l ≡ None → Ascending l → Ascending (inserted e l)) → ltb x.school e.school ≡ true → Ascending (inserted e (x ∷ l))
   smaller rest t = rw t (above_inserted x.school e l (ltb-true x.school e.school t) up.0, rest (rw t at new) up.1)
 
   same : ltb x.school e.school ≡ false → eqb x.school e.school ≡ true → Ascending (inserted e (x ∷ l))
-  same t u = absurd (let found : some x.format ≡ none = rw (t, u) at new in let z : ◌≡◌ {A = ℕ} 0 1 = cc in omega (arith, z))
+  same t u = absurd (let found : Some x.format ≡ None = rw (t, u) at new in let z : ◌≡◌ {A = ℕ} 0 1 = cc in omega (arith, z))
 
   larger : ltb x.school e.school ≡ false → eqb x.school e.school ≡ false → Ascending (inserted e (x ∷ l))
   larger t u =
       let over : e.school < x.school = omega (arith, ltb-false x.school e.school t, eqb-false x.school e.school u) in
       rw t ((over, above_less e.school x.school l (omega arith) up.0), up)
 
-pub looks_inserted_same : (e : Entry) (l : List Entry) → look_up e.school (inserted e l) ≡ some e.format
+pub looks_inserted_same : (e : Entry) (l : List Entry) → look_up e.school (inserted e l) ≡ Some e.format
 looks_inserted_same e [] = rw (le-ltb e.school e.school (omega arith), eq-eqb e.school e.school refl)
 looks_inserted_same e (x ∷ l) = go (ltb x.school e.school) refl (looks_inserted_same e l) where
-  go : (t : Bool) → ltb x.school e.school ≡ t → look_up e.school (inserted e l) ≡ some e.format
-      → look_up e.school (cond t (x ∷ inserted e l) (e ∷ x ∷ l)) ≡ some e.format
+  go : (t : Bool) → ltb x.school e.school ≡ t → look_up e.school (inserted e l) ≡ Some e.format
+      → look_up e.school (cond t (x ∷ inserted e l) (e ∷ x ∷ l)) ≡ Some e.format
   go true t rest = rw t rest
   go false t rest = rw (le-ltb e.school e.school (omega arith), eq-eqb e.school e.school refl)
 
@@ -100,16 +99,16 @@ ascends_without n (x ∷ l) up = go (ltb x.school n) (eqb x.school n) (ascends_w
   go false true rest = up.1
   go false false rest = up
 
-pub looks_without_same : (n : ℕ) (l : List Entry) → Ascending l → look_up n (without n l) ≡ none
+pub looks_without_same : (n : ℕ) (l : List Entry) → Ascending l → look_up n (without n l) ≡ None
 looks_without_same n [] up = refl
 looks_without_same n (x ∷ l) up = by_order x.school n (smaller (looks_without_same n l up.1)) same larger where
-  smaller : look_up n (without n l) ≡ none → ltb x.school n ≡ true → look_up n (without n (x ∷ l)) ≡ none
+  smaller : look_up n (without n l) ≡ None → ltb x.school n ≡ true → look_up n (without n (x ∷ l)) ≡ None
   smaller rest t = rw (t, t) rest
 
-  same : ltb x.school n ≡ false → eqb x.school n ≡ true → look_up n (without n (x ∷ l)) ≡ none
+  same : ltb x.school n ≡ false → eqb x.school n ≡ true → look_up n (without n (x ∷ l)) ≡ None
   same t u = rw (t, u) (above_none n x.school l (omega (arith, eqb-true x.school n u)) up.0)
 
-  larger : ltb x.school n ≡ false → eqb x.school n ≡ false → look_up n (without n (x ∷ l)) ≡ none
+  larger : ltb x.school n ≡ false → eqb x.school n ≡ false → look_up n (without n (x ∷ l)) ≡ None
   larger t u = rw (t, u, t, u)
 
 pub looks_without_other : (m n : ℕ) (l : List Entry) → (m ≡ n → ⊥) → Ascending l → look_up n (without m l) ≡ look_up n l
@@ -128,22 +127,22 @@ looks_without_other m n (x ∷ l) other up = by_order x.school m (smaller (looks
 
 -- A ROW: the entry that a listing has at a place
 
-above_row : (n : ℕ) (l : List Entry) (i : ℕ) (e : Entry) → AllAbove n l → get_elem? l i ≡ some e → n < e.school
-above_row n [] i e above row = absurd (let z : ◌≡◌ {A = ℕ} 0 1 = cc in omega (arith, z))
+above_row : (n : ℕ) (l : List Entry) (i : ℕ) (e : Entry) → AllAbove n l → slice_get l i ≡ Some e → n < e.school
+above_row n [] i e above row = absurd cc
 above_row n (x ∷ l) zero e above row = let same : x ≡ e = cc in omega (arith, above.0, ap (λ (y : Entry). y.school) same)
 above_row n (x ∷ l) (suc i) e above row = above_row n l i e above.1 row
 
 -- it is what is looked up for its school
-pub row_looks : (l : List Entry) (i : ℕ) (e : Entry) → Ascending l → get_elem? l i ≡ some e → look_up e.school l ≡ some e.format
-row_looks [] i e up row = absurd (let z : ◌≡◌ {A = ℕ} 0 1 = cc in omega (arith, z))
+pub row_looks : (l : List Entry) (i : ℕ) (e : Entry) → Ascending l → slice_get l i ≡ Some e → look_up e.school l ≡ Some e.format
+row_looks [] i e up row = absurd cc
 row_looks (x ∷ l) zero e up row =
     let same : x ≡ e = cc in
     rw (same, le-ltb e.school e.school (omega arith), eq-eqb e.school e.school refl)
 row_looks (x ∷ l) (suc i) e up row = rw (lt-ltb x.school e.school (above_row x.school l i e up.0 row)) (row_looks l i e up.1 row)
 
 -- rows further on have larger numbers
-pub rows_ascend : (l : List Entry) (i j : ℕ) (d e : Entry) → Ascending l → get_elem? l i ≡ some d → get_elem? l j ≡ some e → i < j → d.school < e.school
-rows_ascend [] i j d e up first then h = absurd (let z : ◌≡◌ {A = ℕ} 0 1 = cc in omega (arith, z))
+pub rows_ascend : (l : List Entry) (i j : ℕ) (d e : Entry) → Ascending l → slice_get l i ≡ Some d → slice_get l j ≡ Some e → i < j → d.school < e.school
+rows_ascend [] i j d e up first then h = absurd cc
 rows_ascend (x ∷ l) i zero d e up first then h = absurd (omega arith)
 rows_ascend (x ∷ l) zero (suc j) d e up first then h =
     let same : x ≡ d = cc in
@@ -151,17 +150,17 @@ rows_ascend (x ∷ l) zero (suc j) d e up first then h =
 rows_ascend (x ∷ l) (suc i) (suc j) d e up first then h = rows_ascend l i j d e up.1 first then (omega arith)
 
 -- what is looked up stands in a row
-pub looks_row : (n : ℕ) (f : Format) (l : List Entry) → look_up n l ≡ some f → (i : ℕ) × (get_elem? l i ≡ some (entry_of n f))
-looks_row n f [] found = absurd (let z : ◌≡◌ {A = ℕ} 0 1 = cc in omega (arith, z))
+pub looks_row : (n : ℕ) (f : Format) (l : List Entry) → look_up n l ≡ Some f → (i : ℕ) × (slice_get l i ≡ Some (entry_of n f))
+looks_row n f [] found = absurd cc
 looks_row n f (x ∷ l) found = by_order x.school n (smaller (looks_row n f l)) same larger where
-  smaller : (look_up n l ≡ some f → (i : ℕ) × (get_elem? l i ≡ some (entry_of n f))) → ltb x.school n ≡ true → (i : ℕ) × (get_elem? (x ∷ l) i ≡ some (entry_of n f))
+  smaller : (look_up n l ≡ Some f → (i : ℕ) × (slice_get l i ≡ Some (entry_of n f))) → ltb x.school n ≡ true → (i : ℕ) × (slice_get (x ∷ l) i ≡ Some (entry_of n f))
   smaller rest t = let row = rest (rw t at found) in (suc row.0, row.1)
 
-  same : ltb x.school n ≡ false → eqb x.school n ≡ true → (i : ℕ) × (get_elem? (x ∷ l) i ≡ some (entry_of n f))
+  same : ltb x.school n ≡ false → eqb x.school n ≡ true → (i : ℕ) × (slice_get (x ∷ l) i ≡ Some (entry_of n f))
   same t u =
-      let word : some x.format ≡ some f = rw (t, u) at found in
+      let word : Some x.format ≡ Some f = rw (t, u) at found in
       let is : x.format ≡ f = cc in
-      (0, ap some (ap (λ (k : ℕ). entry_of k x.format) (eqb-true x.school n u) ∙ ap (entry_of n) is))
+      (0, ap Some (ap (λ (k : ℕ). entry_of k x.format) (eqb-true x.school n u) ∙ ap (entry_of n) is))
 
-  larger : ltb x.school n ≡ false → eqb x.school n ≡ false → (i : ℕ) × (get_elem? (x ∷ l) i ≡ some (entry_of n f))
-  larger t u = absurd (let none_there : none ≡ some f = rw (t, u) at found in let z : ◌≡◌ {A = ℕ} 0 1 = cc in omega (arith, z))
+  larger : ltb x.school n ≡ false → eqb x.school n ≡ false → (i : ℕ) × (slice_get (x ∷ l) i ≡ Some (entry_of n f))
+  larger t u = absurd (let none_there : None ≡ Some f = rw (t, u) at found in let z : ◌≡◌ {A = ℕ} 0 1 = cc in omega (arith, z))

@@ -3,31 +3,30 @@
 use mathlib.Core.Path.{◌≡◌, ◌∙◌, refl, sym}
 use mathlib.Core.Logic.{◌⊎◌, inl, inr}
 use mathlib.Core.Bool.{Bool, true, false}
-use mathlib.Core.Option.{Option, some, none}
+use Rattle.std.specs.Prelude.{is_some}
 use Prim.Native.Nat.{ℕ, ◌<◌}
 use native.Mathlib.Omega.{arith}
 use borrow.Author.Tests.{eqb-true, eqb-false, ltb-true, ltb-false}
 use lib.Dec.{eqb, ltb}
 use Rattle.word.specs.declared.format_flags.Format.{Format}
 use Rattle.word.specs.Check.{full_check}
-use Rattle.catalogue.specs.Entries.{is_listed}
-use Rattle.catalogue.specs.Catalogue.{Catalogue, size, word_in, add_number, remove_number, removed, without_listed}
+use Rattle.catalogue.specs.Catalogue.{Catalogue, size, word_in, add_number, remove_number}
 use Rattle.catalogue.specs.Acts.{Act, add, remove, number_for}
 use Rattle.catalogue.specs.RefusalKeeps.{AddFault, ActRefusalKeeps}
-use Rattle.catalogue.proofs.acts.Answers.{refused-word, refused_zero, refused_listed, refused_full, accepted, refused_adds, removes}
+use Rattle.catalogue.proofs.acts.Answers.{refused-word, refused_zero, refused_listed, refused_full, accepted, refused_adds, removes, unlisted}
 
 -- THE NUMBER OF AN ADDITION, and where it is 0 all that it tested
 
 pub record Addable (c : Catalogue) (n : ℕ) (f : Format) : Type 0 where
   pub word : full_check f ≡ 0
   pub school : n ≡ 0 → ⊥
-  pub new : is_listed (word_in c n) ≡ false
+  pub new : is_some (word_in c n) ≡ false
   pub room : size c < 64
 
 pub judged : (c : Catalogue) (n : ℕ) (f : Format) → ((add_number c n f ≡ 0) × Addable c n f) ⊎ ((add_number c n f ≡ 0 → ⊥) × AddFault c n f (add_number c n f))
-judged c n f = go (eqb (full_check f) 0) (eqb n 0) (is_listed (word_in c n)) (ltb (size c) 64) refl refl refl refl where
+judged c n f = go (eqb (full_check f) 0) (eqb n 0) (is_some (word_in c n)) (ltb (size c) 64) refl refl refl refl where
   go :
-      (v z l r : Bool) → eqb (full_check f) 0 ≡ v → eqb n 0 ≡ z → is_listed (word_in c n) ≡ l → ltb (size c) 64 ≡ r
+      (v z l r : Bool) → eqb (full_check f) 0 ≡ v → eqb n 0 ≡ z → is_some (word_in c n) ≡ l → ltb (size c) 64 ≡ r
       → ((add_number c n f ≡ 0) × Addable c n f) ⊎ ((add_number c n f ≡ 0 → ⊥) × AddFault c n f (add_number c n f))
   go false z l r v e is room =
       let bad = eqb-false (full_check f) 0 v in
@@ -55,22 +54,13 @@ addable c n f e = go (judged c n f) where
   go (inl known) = known.1
   go (inr fault) = absurd (fault.0 e)
 
--- THE NUMBER OF A REMOVAL
-
-pub unlisted : (c : Catalogue) (n : ℕ) → is_listed (word_in c n) ≡ false → (remove_number c n ≡ 27) × (removed c n ≡ c)
-unfolding remove_number removed
-unlisted c n is = (rw is, go (word_in c n) is) where
-  go : (o : Option Format) → is_listed o ≡ false → without_listed c n o ≡ c
-  go none e = refl
-  go (some f) e = absurd (let z : ◌≡◌ {A = ℕ} 0 1 = cc in omega (arith, z))
-
 -- THE THEOREM
 pub catalogue_refusal : (c : Catalogue) (act : Act) → (number_for c act ≡ 0) ⊎ ActRefusalKeeps c act
 catalogue_refusal c (add n f) = go (judged c n f) where
   go : ((add_number c n f ≡ 0) × Addable c n f) ⊎ ((add_number c n f ≡ 0 → ⊥) × AddFault c n f (add_number c n f)) → (add_number c n f ≡ 0) ⊎ ActRefusalKeeps c (add n f)
   go (inl known) = inl known.0
   go (inr fault) = inr (record { number = fault.1; catalogue = refused_adds c n f fault.0 })
-catalogue_refusal c (remove n) = go (is_listed (word_in c n)) refl where
-  go : (l : Bool) → is_listed (word_in c n) ≡ l → (remove_number c n ≡ 0) ⊎ ActRefusalKeeps c (remove n)
+catalogue_refusal c (remove n) = go (is_some (word_in c n)) refl where
+  go : (l : Bool) → is_some (word_in c n) ≡ l → (remove_number c n ≡ 0) ⊎ ActRefusalKeeps c (remove n)
   go true is = inl (removes c n is)
   go false is = inr (record { number = ((unlisted c n is).0, is); catalogue = (unlisted c n is).1 })

@@ -2,7 +2,7 @@
 use mathlib.Core.Path.{◌≡◌, ◌∙◌, refl, ap}
 use mathlib.Core.Bool.{Bool, true, false, cond}
 use mathlib.Core.List.{List, [], ◌∷◌}
-use mathlib.Core.Option.{Option, some, none}
+use Rattle.std.specs.Prelude.{None, Option, Some, is_some}
 use Prim.Native.Nat.{ℕ, suc, ◌+◌, ◌-◌, ◌≤◌, ◌<◌}
 use native.Mathlib.Omega.{arith}
 use borrow.Author.Tests.{eqb-true, eqb-false, lt-ltb}
@@ -12,13 +12,13 @@ use lib.Seq.{take_at, length-take-le}
 use Rattle.word.specs.declared.format_flags.Format.{Format}
 use Rattle.word.specs.Word.{digit_separator}
 use Rattle.catalogue.specs.declared.entries.Entry.{Entry}
-use Rattle.catalogue.specs.Entries.{entry_of, look_up, is_listed, inserted, without, sum_of, uses, count_over}
+use Rattle.catalogue.specs.Entries.{entry_of, look_up, inserted, without, sum_of, uses, count_over}
 use Rattle.catalogue.specs.Catalogue.{Catalogue, no_entry, empty_catalogue, listing, size, word_in, raised, with_entry, without_entry, add_number, added, remove_number, removed}
 use Rattle.catalogue.specs.Acts.{Act, add, remove, number_for, after, catalogue_after}
 use Rattle.catalogue.proofs.Sums.{sum_inserted, sum_without, sum_few}
 use Rattle.catalogue.proofs.Ascending.{Ascending, ascends_inserted, ascends_without}
-use Rattle.catalogue.proofs.Demand1.{Addable, addable, unlisted}
-use Rattle.catalogue.proofs.acts.Answers.{adds, refused_adds, removes}
+use Rattle.catalogue.proofs.Demand1.{Addable, addable}
+use Rattle.catalogue.proofs.acts.Answers.{adds, refused_adds, removes, unlisted}
 
 -- HOW MANY: a sum with weight 1
 one_each : (l : List Entry) → sum_of (λ e. 1) l ≡ length l
@@ -28,7 +28,7 @@ one_each (e ∷ l) = omega (arith, one_each l)
 pub length_inserted : (e : Entry) (l : List Entry) → length (inserted e l) ≡ suc (length l)
 length_inserted e l = omega (arith, one_each (inserted e l), one_each l, sum_inserted (λ x. 1) e l)
 
-pub length_without : (n : ℕ) (f : Format) (l : List Entry) → look_up n l ≡ some f → length l ≡ suc (length (without n l))
+pub length_without : (n : ℕ) (f : Format) (l : List Entry) → look_up n l ≡ Some f → length l ≡ suc (length (without n l))
 length_without n f l found = omega (arith, one_each l, one_each (without n l), sum_without (λ x. 1) n f l found)
 
 -- THE LISTING BEHIND AN ACT
@@ -36,7 +36,7 @@ length_without n f l found = omega (arith, one_each l, one_each (without n l), s
 pub listing_with : (c : Catalogue) (e : Entry) → listing (with_entry c e) ≡ inserted e (listing c)
 listing_with c e = take_at (inserted e (listing c)) _ (size c + 1) (omega (arith, length_inserted e (listing c)))
 
-pub listing-without : (c : Catalogue) (n : ℕ) (f : Format) → word_in c n ≡ some f → listing (without_entry c n f) ≡ without n (listing c)
+pub listing-without : (c : Catalogue) (n : ℕ) (f : Format) → word_in c n ≡ Some f → listing (without_entry c n f) ≡ without n (listing c)
 listing-without c n f found = take_at (without n (listing c)) _ (size c - 1) (omega (arith, length_without n f (listing c) found))
 
 -- THE INVARIANT
@@ -56,14 +56,14 @@ uses-one e = go (eqb (digit_separator e.format) 0) where
   go true = omega arith
   go false = omega arith
 
-listed_not : (o : Option Format) → is_listed o ≡ false → o ≡ none
-listed_not none e = refl
-listed_not (some f) e = absurd (let z : ◌≡◌ {A = ℕ} 0 1 = cc in omega (arith, z))
+listed_not : (o : Option Format) → is_some o ≡ false → o ≡ None
+listed_not None e = refl
+listed_not (Some f) e = absurd cc
 
 size_is : (c : Catalogue) → Sound c → size c ≡ c.used
 size_is c sound = length-take-le c.used c.places (omega (arith, sound.places, sound.fits))
 
-sound_with : (c : Catalogue) (e : Entry) → Sound c → word_in c e.school ≡ none → size c < 64 → Sound (with_entry c e)
+sound_with : (c : Catalogue) (e : Entry) → Sound c → word_in c e.school ≡ None → size c < 64 → Sound (with_entry c e)
 sound_with c e sound new room =
     let many = length_inserted e (listing c) in
     let few : c.tally < 64 = omega (arith, sound.tally, sum_few (λ x. uses x.format) uses-one (listing c)) in
@@ -78,7 +78,7 @@ sound_with c e sound new room =
       ascends = rw (listing_with c e) (ascends_inserted e (listing c) new sound.ascends);
     }
 
-sound_without : (c : Catalogue) (n : ℕ) (f : Format) → Sound c → word_in c n ≡ some f → Sound (without_entry c n f)
+sound_without : (c : Catalogue) (n : ℕ) (f : Format) → Sound c → word_in c n ≡ Some f → Sound (without_entry c n f)
 sound_without c n f sound found =
     let many = length_without n f (listing c) found in
     record {
@@ -92,7 +92,7 @@ sound_without c n f sound found =
     }
 
 -- one entry fewer leaves room
-pub fewer : (c : Catalogue) (n : ℕ) (f : Format) → Sound c → word_in c n ≡ some f → size (without_entry c n f) < 64
+pub fewer : (c : Catalogue) (n : ℕ) (f : Format) → Sound c → word_in c n ≡ Some f → size (without_entry c n f) < 64
 fewer c n f sound found =
     let many = length_without n f (listing c) found in
     let left = ap length (listing-without c n f found) in
@@ -103,9 +103,9 @@ fewer c n f sound found =
 pub data Effect (c : Catalogue) : Act → Type 0 where
   refused : {act : Act} → (number_for c act ≡ 0 → ⊥) → after c act ≡ c → Effect c act
   put_in : {n : ℕ} {f : Format} → add_number c n f ≡ 0 → Addable c n f → added c n f ≡ with_entry c (entry_of n f) → Effect c (add n f)
-  taken_out : {n : ℕ} {f : Format} → remove_number c n ≡ 0 → word_in c n ≡ some f → removed c n ≡ without_entry c n f → Effect c (remove n)
+  taken_out : {n : ℕ} {f : Format} → remove_number c n ≡ 0 → word_in c n ≡ Some f → removed c n ≡ without_entry c n f → Effect c (remove n)
 
-takes_out : (c : Catalogue) (n : ℕ) (f : Format) → word_in c n ≡ some f → removed c n ≡ without_entry c n f
+takes_out : (c : Catalogue) (n : ℕ) (f : Format) → word_in c n ≡ Some f → removed c n ≡ without_entry c n f
 unfolding removed
 takes_out c n f found = rw found
 
@@ -116,8 +116,8 @@ effect c (add n f) = go (eqb (add_number c n f) 0) refl where
   go false t = let e = eqb-false (add_number c n f) 0 t in refused e (refused_adds c n f e)
 effect c (remove n) = by_word (word_in c n) refl where
   by_word : (o : Option Format) → word_in c n ≡ o → Effect c (remove n)
-  by_word none e = let is : is_listed (word_in c n) ≡ false = rw e in refused {act = remove n} (λ z. omega (arith, (unlisted c n is).0, z)) (unlisted c n is).1
-  by_word (some f) e = taken_out (removes c n (rw e)) e (takes_out c n f e)
+  by_word None e = let is : is_some (word_in c n) ≡ false = rw e in refused {act = remove n} (λ z. omega (arith, (unlisted c n is).0, z)) (unlisted c n is).1
+  by_word (Some f) e = taken_out (removes c n (rw e)) e (takes_out c n f e)
 
 sound_after : (c : Catalogue) (act : Act) → Sound c → Sound (after c act)
 sound_after c act sound = go (effect c act) where

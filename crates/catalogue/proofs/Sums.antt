@@ -3,7 +3,7 @@
 use mathlib.Core.Path.{◌≡◌, ◌∙◌, refl, ap}
 use mathlib.Core.Bool.{Bool, true, false, cond}
 use mathlib.Core.List.{List, [], ◌∷◌}
-use mathlib.Core.Option.{some, none}
+use Rattle.std.specs.Prelude.{None, Some}
 use Prim.Native.Nat.{ℕ, ◌+◌, ◌≤◌}
 use native.Mathlib.Omega.{arith}
 use borrow.Author.Tests.{eqb-true}
@@ -22,12 +22,12 @@ module _ (weight : Entry → ℕ) where
     go true h = omega (arith, h)
     go false h = refl
 
-  pub sum_without : (n : ℕ) (f : Format) (l : List Entry) → look_up n l ≡ some f → sum_of weight l ≡ weight (entry_of n f) + sum_of weight (without n l)
-  sum_without n f [] e = absurd (let z : ◌≡◌ {A = ℕ} 0 1 = cc in omega (arith, z))
+  pub sum_without : (n : ℕ) (f : Format) (l : List Entry) → look_up n l ≡ Some f → sum_of weight l ≡ weight (entry_of n f) + sum_of weight (without n l)
+  sum_without n f [] e = absurd cc
   sum_without n f (x ∷ l) e = go (ltb x.school n) (eqb x.school n) refl (sum_without n f l) e where
     go :
-        (t u : Bool) → eqb x.school n ≡ u → (look_up n l ≡ some f → sum_of weight l ≡ weight (entry_of n f) + sum_of weight (without n l))
-        → cond t (look_up n l) (cond u (some x.format) none) ≡ some f
+        (t u : Bool) → eqb x.school n ≡ u → (look_up n l ≡ Some f → sum_of weight l ≡ weight (entry_of n f) + sum_of weight (without n l))
+        → cond t (look_up n l) (cond u (Some x.format) None) ≡ Some f
         → weight x + sum_of weight l ≡ weight (entry_of n f) + sum_of weight (cond t (x ∷ without n l) (cond u l (x ∷ l)))
     go true u same rest found = omega (arith, rest found)
     go false true same rest found =
@@ -35,7 +35,7 @@ module _ (weight : Entry → ℕ) where
         let word : x.format ≡ f = cc in
         let whole : x ≡ entry_of n f = ap (λ (k : ℕ). entry_of k x.format) school ∙ ap (entry_of n) word in
         ap (λ (e : Entry). weight e + sum_of weight l) whole
-    go false false same rest found = absurd (let z : ◌≡◌ {A = ℕ} 0 1 = cc in omega (arith, z))
+    go false false same rest found = absurd cc
 
   -- weights of at most 1 come to at most the number of entries
   pub sum_few : ((e : Entry) → weight e ≤ 1) → (l : List Entry) → sum_of weight l ≤ length l

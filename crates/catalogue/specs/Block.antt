@@ -1,5 +1,5 @@
 -- A catalogue as a caller lends it, in 194 words: how many are listed, the tally, then school, lo and hi of each of the 64 places. Assumes nothing.
-use Rattle.std.specs.Prelude.{ℕ, List, [], ◌∷◌, drop, get_or}
+use Rattle.std.specs.Prelude.{ℕ, List, [], ◌∷◌, drop, slice_index}
 use Rattle.catalogue.specs.declared.entries.Entry.{Entry}
 use Rattle.catalogue.specs.Entries.{entry_of}
 use Rattle.catalogue.specs.Catalogue.{Catalogue}
@@ -19,4 +19,4 @@ abbrev pub words_of : Catalogue → List ℕ
 words_of c = c.used ∷ c.tally ∷ entry_words c.places
 
 unfoldable pub catalogue_in : List ℕ → Catalogue
-catalogue_in w = record { used = get_or w 0 0; tally = get_or w 1 0; places = entries_in (drop 2 w) }
+catalogue_in w = record { used = slice_index w 0; tally = slice_index w 1; places = entries_in (drop 2 w) }

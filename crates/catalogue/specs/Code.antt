@@ -1,3 +1,2 @@
 -- What only private functions are promised.
-pub mod Moves
 pub mod Search

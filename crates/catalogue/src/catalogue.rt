@@ -1,10 +1,11 @@
-// A catalogue by value.
+// A catalogue of the caller's own: the same calls as methods. Those over lent words stay, for C lends an array.
 ghost use Rattle.std.specs.Prelude.{◌≡◌};
-ghost use Rattle.catalogue.specs.Catalogue.{empty_catalogue, size, word_in, entry_in, found_word, listed_entry, add_number, added, remove_number, removed, answer_number};
+ghost use Rattle.catalogue.specs.Catalogue.{empty_catalogue, size, word_in, entry_in, add_number, added, remove_number, removed, answer_number};
 ghost use Rattle.catalogue.specs.Block.{catalogue_in, words_of};
 
-use crate::answer::Answer;
-use crate::lookup::{Found, Listed};
+use crate::entries::Entry;
+use crate::error::CatalogueError;
+use crate::{acts, lookup};
 use word::format_flags::Format;
 
 #[derive(Clone, Copy)]
@@ -12,66 +13,49 @@ pub struct Catalogue {
     pub words: [u64; 194],
 }
 
-// An answer, and the catalogue behind it.
-#[derive(Clone, Copy)]
-pub struct Changed {
-    pub catalogue: Catalogue,
-    pub answer: Answer,
-}
-
-pub fn empty() -> Catalogue
-    ensures { result.words ≡ words_of empty_catalogue }
-{
-    let words = [0; 194];
-    Catalogue { words }
-}
-
 impl Catalogue {
-    pub fn add(self, school: u16, format: Format) -> Changed
-        ensures number { answer_number result.answer ≡ add_number (catalogue_in self.words) school format }
-        ensures changed { result.catalogue.words ≡ words_of (added (catalogue_in self.words) school format) }
+    pub fn empty() -> Self
+        ensures { result.words ≡ words_of empty_catalogue }
     {
-        let mut words = self.words;
-        let answer = crate::acts::add(&mut words, school, format);
-        let catalogue = Catalogue { words };
-        Changed { catalogue, answer }
+        let words = [0; 194];
+        Catalogue { words }
     }
 
-    pub fn remove(self, school: u16) -> Changed
-        ensures number { answer_number result.answer ≡ remove_number (catalogue_in self.words) school }
-        ensures changed { result.catalogue.words ≡ words_of (removed (catalogue_in self.words) school) }
+    pub fn add(&mut self, school: u16, format: Format) -> Result<(), CatalogueError>
+        ensures number { answer_number result ≡ add_number (catalogue_in self.old.words) school format }
+        ensures changed { self.new.words ≡ words_of (added (catalogue_in self.old.words) school format) }
     {
-        let mut words = self.words;
-        let answer = crate::acts::remove(&mut words, school);
-        let catalogue = Catalogue { words };
-        Changed { catalogue, answer }
+        acts::add(&mut self.words, school, format)
     }
 
-    pub fn find(self, school: u16) -> Found
-        ensures { found_word result ≡ word_in (catalogue_in self.words) school }
+    pub fn remove(&mut self, school: u16) -> Result<(), CatalogueError>
+        ensures number { answer_number result ≡ remove_number (catalogue_in self.old.words) school }
+        ensures changed { self.new.words ≡ words_of (removed (catalogue_in self.old.words) school) }
     {
-        let words = self.words;
-        crate::lookup::find(&words, school)
+        acts::remove(&mut self.words, school)
     }
 
-    pub fn entry(self, i: usize) -> Listed
-        ensures { listed_entry result ≡ entry_in (catalogue_in self.words) i }
+    pub fn find(&self, school: u16) -> Option<Format>
+        ensures { result ≡ word_in (catalogue_in self.now.words) school }
     {
-        let words = self.words;
-        crate::lookup::entry(&words, i)
+        lookup::find(&self.words, school)
     }
 
-    pub fn len(self) -> usize
-        ensures { result ≡ size (catalogue_in self.words) }
+    pub fn entry(&self, i: usize) -> Option<Entry>
+        ensures { result ≡ entry_in (catalogue_in self.now.words) i }
     {
-        let words = self.words;
-        crate::lookup::len(&words)
+        lookup::entry(&self.words, i)
     }
 
-    pub fn separators(self) -> u64
-        ensures { result ≡ (catalogue_in self.words).tally }
+    pub fn len(&self) -> usize
+        ensures { result ≡ size (catalogue_in self.now.words) }
     {
-        let words = self.words;
-        crate::lookup::separators(&words)
+        lookup::len(&self.words)
+    }
+
+    pub fn separators(&self) -> u64
+        ensures { result ≡ (catalogue_in self.now.words).tally }
+    {
+        lookup::separators(&self.words)
     }
 }

@@ -1,10 +1,8 @@
 // The entries of a lent catalogue: three words each, behind the two of how many are listed and of the tally.
-ghost use Rattle.std.specs.Prelude.{◌≡◌, [], ◌∷◌, ◌+◌, ◌*◌, ◌<◌, ◌≤◌, length, get_or};
+ghost use Rattle.std.specs.Prelude.{◌≡◌, [], ◌∷◌, ◌+◌, ◌*◌, ◌<◌, ◌≤◌, slice_index_or};
 ghost use Rattle.std.proofs.lemmas.List.Edits.{sets};
-ghost use Rattle.catalogue.specs.Entries.{is_listed};
-ghost use Rattle.catalogue.specs.Catalogue.{listing, size, word_in, no_entry};
+ghost use Rattle.catalogue.specs.Catalogue.{size, no_entry};
 ghost use Rattle.catalogue.specs.Block.{catalogue_in, entry_words};
-ghost use Rattle.catalogue.specs.Code.Search.{before};
 
 use word::format_flags::Format;
 
@@ -16,34 +14,17 @@ pub struct Entry {
     pub format: Format,
 }
 
-// How many entries are listed. A block made otherwise may claim more than there are places.
-pub(crate) fn listed(words: &[u64]) -> usize
-    requires { length words.now ≡ 194 }
+// How many entries are listed. A block made otherwise may claim more than there are places. `as` is proved to keep the number, where
+// `try_from` would answer an error that cannot come; so are those of acts.rt.
+pub(crate) fn listed(words: &[u64; 194]) -> usize
     ensures { (result ≡ size (catalogue_in words.now)) × (result ≤ 64) }
 {
-    let used = words[0];
-    let fits = used < 64;
-    if fits {
-        return used as usize;
-    }
-    64
+    words[0].min(64) as usize
 }
 
-// Whether the entry at that place is the school's.
-pub(crate) fn stands_at(words: &[u64], len: usize, at: usize, school: u64) -> bool
-    requires { (length words.now ≡ 194) × (len ≡ size (catalogue_in words.now)) × (len ≤ 64) × (at ≡ before school (listing (catalogue_in words.now))) }
-    ensures { result ≡ is_listed (word_in (catalogue_in words.now) school) }
-{
-    if at < len {
-        let here = 2 + 3 * at;
-        return words[here] == school;
-    }
-    false
-}
-
-pub(crate) fn entry_at(words: &[u64], at: usize) -> Entry
-    requires { (length words.now ≡ 194) × (at < 64) }
-    ensures { result ≡ get_or (catalogue_in words.now).places at no_entry }
+pub(crate) fn entry_at(words: &[u64; 194], at: usize) -> Entry
+    requires { at < 64 }
+    ensures { result ≡ slice_index_or (catalogue_in words.now).places at no_entry }
 {
     let here = 2 + 3 * at;
     let school = words[here];
@@ -55,8 +36,8 @@ pub(crate) fn entry_at(words: &[u64], at: usize) -> Entry
     }
 }
 
-pub(crate) fn put_entry(words: &mut [u64], at: usize, sheet: Entry)
-    requires { (length words.old ≡ 194) × (at < 64) }
+pub(crate) fn put_entry(words: &mut [u64; 194], at: usize, sheet: Entry)
+    requires { at < 64 }
     ensures { words.new ≡ sets words.old (2 + 3 * at) (entry_words (sheet ∷ [])) }
 {
     let here = 2 + 3 * at;

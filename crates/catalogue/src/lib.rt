@@ -3,9 +3,8 @@
 #![tactic(auto)]
 
 pub mod acts;
-pub mod answer;
 pub mod catalogue;
 pub mod entries;
+pub mod error;
 pub mod lookup;
-mod moves;
 mod search;

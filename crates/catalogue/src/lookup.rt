@@ -1,62 +1,31 @@
 // What is asked of a catalogue that the caller lends: a school's word, the listing, how long it is, and the tally.
-ghost use Rattle.std.specs.Prelude.{◌≡◌, ◌<◌, length};
-ghost use Rattle.catalogue.specs.Catalogue.{size, word_in, entry_in, found_word, listed_entry};
+ghost use Rattle.std.specs.Prelude.{◌≡◌};
+ghost use Rattle.catalogue.specs.Catalogue.{size, word_in, entry_in};
 ghost use Rattle.catalogue.specs.Block.{catalogue_in};
 
-use crate::entries::{Entry, entry_at, listed, stands_at};
-use crate::search::place_of;
+use crate::entries::{Entry, entry_at, listed};
+use crate::search::seek;
 use word::format_flags::Format;
 
-#[derive(Clone, Copy)]
-pub enum Found {
-    Word(Format),
-    Nowhere,
-}
-
-#[derive(Clone, Copy)]
-pub enum Listed {
-    At(Entry),
-    Nowhere,
-}
-
-fn find_in(words: &[u64], school: u64) -> Found
-    requires { length words.now ≡ 194 }
-    ensures { found_word result ≡ word_in (catalogue_in words.now) school }
-{
-    let len = listed(words);
-    let at = place_of(words, len, school);
-    if stands_at(words, len, at, school) {
-        let sheet = entry_at(words, at);
-        let format = sheet.format;
-        return Found::Word(format);
-    }
-    Found::Nowhere
-}
-
-fn entry_in(words: &[u64], i: usize) -> Listed
-    requires { length words.now ≡ 194 }
-    ensures { listed_entry result ≡ entry_in (catalogue_in words.now) i }
-{
-    let len = listed(words);
-    if i < len {
-        let sheet = entry_at(words, i);
-        return Listed::At(sheet);
-    }
-    Listed::Nowhere
-}
-
 // The word of a school.
-pub fn find(words: &[u64; 194], school: u16) -> Found
-    ensures { found_word result ≡ word_in (catalogue_in words.now) school }
+pub fn find(words: &[u64; 194], school: u16) -> Option<Format>
+    ensures { result ≡ word_in (catalogue_in words.now) school }
 {
-    find_in(words, school as u64)
+    match seek(words, u64::from(school)) {
+        Ok(at) => Some(entry_at(words, at).format),
+        Err(_) => None,
+    }
 }
 
 // The listing's entry at a place, counted from 0.
-pub fn entry(words: &[u64; 194], i: usize) -> Listed
-    ensures { listed_entry result ≡ entry_in (catalogue_in words.now) i }
+pub fn entry(words: &[u64; 194], i: usize) -> Option<Entry>
+    ensures { result ≡ entry_in (catalogue_in words.now) i }
 {
-    entry_in(words, i)
+    let len = listed(words);
+    if i < len {
+        return Some(entry_at(words, i));
+    }
+    None
 }
 
 // How many schools are listed.

@@ -2,11 +2,12 @@
 use mathlib.Core.Path.{◌≡◌, ◌∙◌, refl, sym}
 use mathlib.Core.Bool.{Bool, true, false, false≢true}
 use mathlib.Core.List.{List, [], ◌∷◌, ◌++◌}
-use mathlib.Core.Option.{Option, some, none}
 use Prim.Native.Nat.{ℕ, zero, suc, ◌+◌, ◌<◌}
 use native.Mathlib.Omega.{arith}
 use borrow.Author.Tests.{eqb-true, ltb-true}
 use lib.Dec.{eqb}
+use Rattle.std.specs.Prelude as std
+use Rattle.std.specs.Prelude.{is_some, Option, Some, None}
 use Rattle.word.specs.Digit.{below, digit_value, is_digit}
 use Rattle.reader.specs.declared.state.Reader.{Reader}
 use Rattle.reader.specs.declared.state.State.{State}
@@ -21,10 +22,6 @@ use Rattle.reader.proofs.state.Refusals.{within, still_admitted, peek_admitted, 
 use Rattle.reader.proofs.state.Updates.{count_moved}
 use Rattle.cells.specs.DigitRun.{sees_digit, digits_from}
 use Rattle.cells.proofs.TwicePassed.{digit_behind}
-
-abbrev pub is_some : Option ℕ → Bool
-is_some none = false
-is_some (some v) = true
 
 -- a test holds of every member
 abbrev pub Every : (ℕ → Bool) → List ℕ → Type 0
@@ -47,8 +44,8 @@ module _ (x : Syntax) (s : List ℕ) (r : Reader) where
     unfolding next_of
     take_shows = go (peek_of m s st r).byte refl where
       go : (o : Option ℕ) → (peek_of m s st r).byte ≡ o → (take_byte m r (peek_of m s st r) o).byte ≡ o
-      go none e = e
-      go (some b) e = refl
+      go None e = e
+      go (Some b) e = refl
 
     peek_shows : refusal_of m s st r ≡ 0 → (peek_of m s st r).byte ≡ byte_at s place
     unfolding peeked
@@ -70,18 +67,18 @@ module _ (x : Syntax) (s : List ℕ) (r : Reader) where
 
   -- behind a peek that saw a digit a digit is taken
   taken_here : (st : State) → refusal_of m s st r ≡ 0 → sees_digit m (peek_of m s st r).byte ≡ true
-      → (c : ℕ) → (next_of m s (peek_of m s st r).state r).byte ≡ some c → m.digit c ≡ true
+      → (c : ℕ) → (next_of m s (peek_of m s st r).state r).byte ≡ Some c → m.digit c ≡ true
   taken_here st clear sees c took =
       go (byte_at s (place st)) refl (rw (peek_shows st clear) at sees) where
-        took_there : byte_at s (place st + passed_at m s (is_first st) (place st)) ≡ some c
+        took_there : byte_at s (place st + passed_at m s (is_first st) (place st)) ≡ Some c
         took_there = sym (next_shows st clear) ∙ rw (peek_leaves st clear) at took
 
         go : (o : Option ℕ) → byte_at s (place st) ≡ o → sees_digit m o ≡ true → m.digit c ≡ true
-        go none e h = absurd (false≢true h)
-        go (some b) e h = digit_behind x s (is_first st) st.cursor b e h c took_there
+        go None e h = absurd (false≢true h)
+        go (Some b) e h = digit_behind x s (is_first st) st.cursor b e h c took_there
 
   pub digit_taken : (st : State) → sees_digit m (peek_of m s st r).byte ≡ true
-      → (c : ℕ) → (next_of m s (peek_of m s st r).state r).byte ≡ some c → m.digit c ≡ true
+      → (c : ℕ) → (next_of m s (peek_of m s st r).state r).byte ≡ Some c → m.digit c ≡ true
   digit_taken st sees c took = go (eqb (refusal_of m s st r) 0) refl where
     go : (t : Bool) → eqb (refusal_of m s st r) 0 ≡ t → m.digit c ≡ true
     go true t = taken_here st (eqb-true (refusal_of m s st r) 0 t) sees c took
@@ -91,10 +88,10 @@ module _ (x : Syntax) (s : List ℕ) (r : Reader) where
   unfolding digits_from reading_with
   digits_are_digits zero st = tt
   digits_are_digits (suc n) st = go (sees_digit m (peek_of m s st r).byte) refl (digits_are_digits n (next_of m s (peek_of m s st r).state r).state) where
-    joined : (rest : List ℕ) (o : Option ℕ) → ((c : ℕ) → o ≡ some c → is_digit c x.radix ≡ true) → Every (λ b. is_digit b x.radix) rest
+    joined : (rest : List ℕ) (o : Option ℕ) → ((c : ℕ) → o ≡ Some c → is_digit c x.radix ≡ true) → Every (λ b. is_digit b x.radix) rest
         → Every (λ b. is_digit b x.radix) (byte_taken o ++ rest)
-    joined rest none one all = all
-    joined rest (some c) one all = (one c refl, all)
+    joined rest None one all = all
+    joined rest (Some c) one all = (one c refl, all)
 
     go :
         (t : Bool) → sees_digit m (peek_of m s st r).byte ≡ t
@@ -107,9 +104,9 @@ module _ (x : Syntax) (s : List ℕ) (r : Reader) where
 has_value : (b radix : ℕ) → radix < 256 → is_digit b radix ≡ true → is_some (digit_value b) ≡ true
 unfolding is_digit
 has_value b radix small = go (digit_value b) where
-  go : (o : Option ℕ) → below o radix ≡ true → is_some o ≡ true
-  go none h = absurd (omega (arith, ltb-true 255 radix h))
-  go (some d) h = refl
+  go : (o : std.Option ℕ) → below o radix ≡ true → is_some o ≡ true
+  go std.None h = absurd (omega (arith, ltb-true 255 radix h))
+  go (std.Some d) h = refl
 
 each_has_value : (radix : ℕ) → radix < 256 → (digits : List ℕ) → Every (λ b. is_digit b radix) digits → Every (λ b. is_some (digit_value b)) digits
 each_has_value radix small [] all = tt

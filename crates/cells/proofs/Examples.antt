@@ -1,9 +1,9 @@
 -- Digit runs worked out from the definitions, by computation: the first and the last value, the refusals, what stays of the last peek, and
 -- words that the check refuses. Each from a fresh state. Assumes nothing.
+use Rattle.std.specs.Prelude.{Option, Some, None}
 use mathlib.Core.Path.{◌≡◌, refl}
 use mathlib.Core.Bool.{Bool, true, false}
 use mathlib.Core.List.{List, [], ◌∷◌, map}
-use mathlib.Core.Option.{Option, some, none}
 use Prim.Native.Nat.{ℕ}
 use Rattle.word.specs.Digit.{digit_value, is_digit}
 use Rattle.reader.specs.declared.rule.Flags.{Flags}
@@ -46,10 +46,10 @@ abbrev pub of_radix : ℕ → Syntax
 of_radix radix = record { separator = 0; radix = radix; flags = flagged false false false }
 
 abbrev pub reads : ℕ → ℕ → ℕ → ℕ → ℕ → Shown
-reads v taken passed cursor count = record { number = 0; value = some v; taken = taken; passed = passed; cursor = cursor; count = count }
+reads v taken passed cursor count = record { number = 0; value = Some v; taken = taken; passed = passed; cursor = cursor; count = count }
 
 abbrev pub refuses : ℕ → Shown
-refuses number = record { number = number; value = none; taken = 0; passed = 0; cursor = 0; count = 0 }
+refuses number = record { number = number; value = None; taken = 0; passed = 0; cursor = 0; count = 0 }
 
 abbrev pub by : Syntax → List ℕ → Shown → Example
 by x text shows = record { reader = Integer; syntax = x; text = text; shows = shows }

@@ -1,9 +1,9 @@
 -- A digit run ends within as many steps as there are bytes: more of them would change nothing, so the number that the definition allows is
 -- enough. Assumes nothing.
+use Rattle.std.specs.Prelude.{Option, Some, None}
 use mathlib.Core.Path.{◌≡◌, ◌∙◌, refl, sym, ap}
 use mathlib.Core.Bool.{Bool, true, false, cond}
 use mathlib.Core.List.{List}
-use mathlib.Core.Option.{Option, some, none}
 use Prim.Native.Nat.{ℕ, zero, suc, ◌+◌, ◌≤◌}
 use native.Mathlib.Nat.{zero-add}
 use native.Mathlib.Omega.{arith}
@@ -24,20 +24,20 @@ use Rattle.cells.specs.DigitRun.{stopped, step_then, sees_digit, digits_from, ta
 
 module _ (m : Reading) (s : List ℕ) (r : Reader) where
   -- where a byte is seen, the state is not refused
-  seen_clear : (st : State) (b : ℕ) → (peek_of m s st r).byte ≡ some b → refusal_of m s st r ≡ 0
+  seen_clear : (st : State) (b : ℕ) → (peek_of m s st r).byte ≡ Some b → refusal_of m s st r ≡ 0
   seen_clear st b e = go (eqb (refusal_of m s st r) 0) refl where
     go : (t : Bool) → eqb (refusal_of m s st r) 0 ≡ t → refusal_of m s st r ≡ 0
     go true t = eqb-true (refusal_of m s st r) 0 t
     go false t = absurd (none_there b (rw (turned_away m s st r t) at e))
 
   -- a peek that is not refused and sees no byte has come to the end
-  peeks_end : (st : State) → refusal_of m s st r ≡ 0 → (peek_of m s st r).byte ≡ none → length s ≤ (peek_of m s st r).state.cursor
+  peeks_end : (st : State) → refusal_of m s st r ≡ 0 → (peek_of m s st r).byte ≡ None → length s ≤ (peek_of m s st r).state.cursor
   unfolding peeked moved_to
   peeks_end st clear e = rw (peek_admitted m s st r clear) (go (ltb place (length s)) refl) where
     place : ℕ
     place = st.cursor + passed_at m s (eqb (count_of st r) 0) st.cursor
 
-    there : byte_at s place ≡ none
+    there : byte_at s place ≡ None
     there = rw (peek_admitted m s st r clear) at e
 
     go : (t : Bool) → ltb place (length s) ≡ t → length s ≤ place
@@ -45,16 +45,16 @@ module _ (m : Reading) (s : List ℕ) (r : Reader) where
     go false t = ltb-false place (length s) t
 
   -- a take that takes nothing is its peek
-  takes_nothing : (st : State) → (next_of m s st r).byte ≡ none → ((peek_of m s st r).byte ≡ none) × ((next_of m s st r).state ≡ (peek_of m s st r).state)
+  takes_nothing : (st : State) → (next_of m s st r).byte ≡ None → ((peek_of m s st r).byte ≡ None) × ((next_of m s st r).state ≡ (peek_of m s st r).state)
   unfolding next_of
   takes_nothing st e = go (peek_of m s st r).byte refl e where
-    go : (o : Option ℕ) → (peek_of m s st r).byte ≡ o → (take_byte m r (peek_of m s st r) o).byte ≡ none
-        → (o ≡ none) × ((take_byte m r (peek_of m s st r) o).state ≡ (peek_of m s st r).state)
-    go none q h = (refl, refl)
-    go (some b) q h = absurd (none_there b (sym h))
+    go : (o : Option ℕ) → (peek_of m s st r).byte ≡ o → (take_byte m r (peek_of m s st r) o).byte ≡ None
+        → (o ≡ None) × ((take_byte m r (peek_of m s st r) o).state ≡ (peek_of m s st r).state)
+    go None q h = (refl, refl)
+    go (Some b) q h = absurd (none_there b (sym h))
 
   -- a take from behind a peek that saw a byte moves the cursor on, or to the end
-  moves_on : (st : State) (b : ℕ) → (peek_of m s st r).byte ≡ some b → (n : ℕ) → length s ≤ st.cursor + suc n
+  moves_on : (st : State) (b : ℕ) → (peek_of m s st r).byte ≡ Some b → (n : ℕ) → length s ≤ st.cursor + suc n
       → length s ≤ (next_of m s (peek_of m s st r).state r).state.cursor + n
   moves_on st b e n enough = go (next_of m s seen r).byte refl where
     seen : State
@@ -67,8 +67,8 @@ module _ (m : Reading) (s : List ℕ) (r : Reader) where
     clear = moves_clear (λ q. m) s st _ seen (peek_step (λ q. m) s st r) m.flags r (seen_clear st b e)
 
     go : (o : Option ℕ) → (next_of m s seen r).byte ≡ o → length s ≤ (next_of m s seen r).state.cursor + n
-    go (some c) q = omega (arith, on, enough, (next_takes_one m s seen r c q).moves)
-    go none q =
+    go (Some c) q = omega (arith, on, enough, (next_takes_one m s seen r c q).moves)
+    go None q =
         let nothing = takes_nothing seen q in
         let end = peeks_end seen clear nothing.0 in
         omega (arith, end, ap (λ (h : State). h.cursor) nothing.1)
@@ -77,8 +77,8 @@ module _ (m : Reading) (s : List ℕ) (r : Reader) where
   sees_none : (st : State) → length s ≤ st.cursor → sees_digit m (peek_of m s st r).byte ≡ false
   sees_none st out = go (peek_of m s st r).byte refl where
     go : (o : Option ℕ) → (peek_of m s st r).byte ≡ o → sees_digit m o ≡ false
-    go none e = refl
-    go (some b) e = absurd (omega (arith, out, (peek_byte m s st r b e).inside))
+    go None e = refl
+    go (Some b) e = absurd (omega (arith, out, (peek_byte m s st r b e).inside))
 
   enough_from : (n k : ℕ) (st : State) → length s ≤ st.cursor + n → digits_from (n + k) m s r st ≡ digits_from n m s r st
   unfolding digits_from
@@ -95,8 +95,8 @@ module _ (m : Reading) (s : List ℕ) (r : Reader) where
         (o : Option ℕ) → (peek_of m s st r).byte ≡ o
         → (length s ≤ (next_of m s seen r).state.cursor + n → digits_from (n + k) m s r (next_of m s seen r).state ≡ digits_from n m s r (next_of m s seen r).state)
         → digits_from (suc (n + k)) m s r st ≡ digits_from (suc n) m s r st
-    go none e rest = rw e
-    go (some b) e rest = rw e (judge (m.digit b)) where
+    go None e rest = rw e
+    go (Some b) e rest = rw e (judge (m.digit b)) where
       judge : (t : Bool)
           → cond t (step_then (peek_of m s st r) (next_of m s seen r) (digits_from (n + k) m s r (next_of m s seen r).state)) (stopped (peek_of m s st r))
           ≡ cond t (step_then (peek_of m s st r) (next_of m s seen r) (digits_from n m s r (next_of m s seen r).state)) (stopped (peek_of m s st r))

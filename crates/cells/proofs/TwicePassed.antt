@@ -1,10 +1,10 @@
 -- A peek may leave its cursor at a separator that is itself a digit (words that the check refuses), and the take behind it then passes
 -- that one too. By 01's rules it does so only without the consecutive flag, and only in front of a digit: so behind a peek that saw a digit
 -- a digit is taken, by every word. Assumes nothing.
+use Rattle.std.specs.Prelude.{Option, Some, slice_get}
 use mathlib.Core.Path.{◌≡◌, ◌∙◌, refl, sym, ap}
 use mathlib.Core.Bool.{Bool, true, false, false≢true}
-use mathlib.Core.List.{List, head?}
-use mathlib.Core.Option.{Option, some}
+use mathlib.Core.List.{List}
 use Prim.Native.Nat.{ℕ, ◌+◌}
 use native.Mathlib.Nat.{add-zero}
 use native.Mathlib.Numerals.{add-one}
@@ -48,10 +48,10 @@ unfolding rule_of
 twice f true p n single front back = twice_first f.internal f.leading f.trailing p n (rw single at front) (rw single at back)
 twice f false p n single front back = twice_later f.internal f.leading f.trailing p n (rw single at front) (rw single at back)
 
-plain_nearest : (separator : ℕ) (consecutive : Bool) (bytes : List ℕ) → consecutive ≡ false → nearest separator consecutive bytes ≡ head? bytes
+plain_nearest : (separator : ℕ) (consecutive : Bool) (bytes : List ℕ) → consecutive ≡ false → nearest separator consecutive bytes ≡ slice_get bytes 0
 plain_nearest separator consecutive bytes e = rw e
 
-same_byte : (o : Option ℕ) (a b : ℕ) → o ≡ some a → o ≡ some b → a ≡ b
+same_byte : (o : Option ℕ) (a b : ℕ) → o ≡ Some a → o ≡ Some b → a ≡ b
 same_byte o a b e f = cc
 
 module _ (x : Syntax) (s : List ℕ) (is_first : Bool) (at : ℕ) where
@@ -61,15 +61,15 @@ module _ (x : Syntax) (s : List ℕ) (is_first : Bool) (at : ℕ) where
   abbrev place : ℕ
   place = at + passed_at m s is_first at
 
-  as_both : (b : ℕ) → m.digit b ≡ true → is_separator m.separator b ≡ true → neighbour_of m (some b) ≡ both
+  as_both : (b : ℕ) → m.digit b ≡ true → is_separator m.separator b ≡ true → neighbour_of m (Some b) ≡ both
   unfolding neighbour_of
   as_both b d e = rw (d, e)
 
-  digit_told : (c : ℕ) → (neighbour_of m (some c)).digit ≡ m.digit c
+  digit_told : (c : ℕ) → (neighbour_of m (Some c)).digit ≡ m.digit c
   unfolding neighbour_of
   digit_told c = refl
 
-  module _ (b : ℕ) (here : byte_at s place ≡ some b) (digit : m.digit b ≡ true) where
+  module _ (b : ℕ) (here : byte_at s place ≡ Some b) (digit : m.digit b ≡ true) where
     -- what was passed with the consecutive flag is followed by another byte
     no_run : may_pass m s is_first at ≡ true → m.flags.consecutive ≡ true → may_pass m s is_first place ≡ true → ⊥
     no_run e k again =
@@ -80,7 +80,7 @@ module _ (x : Syntax) (s : List ℕ) (is_first : Bool) (at : ℕ) where
 
     -- what was passed without it was one separator, and the next one is in front of a digit
     single : may_pass m s is_first at ≡ true → m.flags.consecutive ≡ false → may_pass m s is_first place ≡ true
-        → (c : ℕ) → byte_at s (place + 1) ≡ some c → m.digit c ≡ true
+        → (c : ℕ) → byte_at s (place + 1) ≡ Some c → m.digit c ≡ true
     unfolding reading_with
     single e k again c behind =
         let p = passes_here m s is_first at e in
@@ -91,18 +91,18 @@ module _ (x : Syntax) (s : List ℕ) (is_first : Bool) (at : ℕ) where
         let separator : is_separator m.separator b ≡ true = rw same at q.separator in
         let equal : p.byte ≡ b = separator_is m.separator p.byte p.separator ∙ sym (separator_is m.separator b separator) in
         let is-both = as_both b digit separator in
-        let byte : get_or s at 0 ≡ b = same_byte (byte_at s at) (get_or s at 0) b (byte_here s at h) (p.here ∙ ap some equal) in
-        let back : previous m s place ≡ neighbour_of m (some b) =
+        let byte : get_or s at 0 ≡ b = same_byte (byte_at s at) (get_or s at 0) b (byte_here s at h) (p.here ∙ ap Some equal) in
+        let back : previous m s place ≡ neighbour_of m (Some b) =
         ap (neighbour_of m) (plain_nearest m.separator m.flags.consecutive (before s place) k ∙ rw (one, before_next s at h, byte)) in
-        let front : following m s at ≡ neighbour_of m (some b) =
+        let front : following m s at ≡ neighbour_of m (Some b) =
         ap (neighbour_of m) (plain_nearest m.separator m.flags.consecutive (after s at) k ∙ rw (← add-one) (rw one at here)) in
-        let next : following m s place ≡ neighbour_of m (some c) =
+        let next : following m s place ≡ neighbour_of m (Some c) =
         ap (neighbour_of m) (plain_nearest m.separator m.flags.consecutive (after s place) k ∙ rw (← add-one) behind) in
         sym (digit_told c)
         ∙ ap (λ (n : Neighbour). n.digit) (sym next)
         ∙ twice x.flags is_first (previous m s at) (following m s place) k (rw (front, is-both) at p.rule) (rw (back, is-both) at q.rule)
 
-    pub digit_behind : (c : ℕ) → byte_at s (place + passed_at m s is_first place) ≡ some c → m.digit c ≡ true
+    pub digit_behind : (c : ℕ) → byte_at s (place + passed_at m s is_first place) ≡ Some c → m.digit c ≡ true
     digit_behind c behind = go (may_pass m s is_first place) (may_pass m s is_first at) m.flags.consecutive refl refl refl where
       go : (t u v : Bool) → may_pass m s is_first place ≡ t → may_pass m s is_first at ≡ u → m.flags.consecutive ≡ v → m.digit c ≡ true
       go false u v e f k =

@@ -1,10 +1,10 @@
 -- Of a run that reaches the end of a cell, the digits are the cell's bytes that are no separators: for numbers from cells that are longer
 -- than 64 bits hold. Assumes nothing.
+use Rattle.std.specs.Prelude.{Option, Some, None}
 use mathlib.Core.Path.{◌≡◌, ◌∙◌, refl, sym, ap}
 use mathlib.Core.Bool.{Bool, true, false, false≢true}
 use mathlib.Core.List.{List, [], ◌∷◌, ◌++◌, append-nil, append_assoc}
 use mathlib.Core.Logic.{⊎_elim}
-use mathlib.Core.Option.{Option, some, none}
 use Prim.Native.Nat.{ℕ, zero, suc, ◌+◌, ◌<◌}
 use native.Mathlib.Nat.{add-zero, eq-zero-or-pos}
 use native.Mathlib.Omega.{arith}
@@ -70,7 +70,7 @@ module _ (x : Syntax) (s : List ℕ) (r : Reader) (apart : (b : ℕ) → is_digi
       passed_over st _ _ moves ∙ ap left (sym (moves.cursor ∙ add-zero (st.cursor + (peek_of m s st r).passed)))
 
   -- a take whose byte is a digit
-  taken_over : (st : State) → ((c : ℕ) → (next_of m s st r).byte ≡ some c → is_digit c x.radix ≡ true)
+  taken_over : (st : State) → ((c : ℕ) → (next_of m s st r).byte ≡ Some c → is_digit c x.radix ≡ true)
       → left st.cursor ≡ byte_taken (next_of m s st r).byte ++ left (next_of m s st r).state.cursor
   taken_over st digit = passed_over st _ _ moves ∙ go (next_of m s st r).byte refl moves.cursor moves.bytes where
     moves : Moves (λ q. m) s st (step_of r a_take (next_of m s st r)) (next_of m s st r).state
@@ -82,8 +82,8 @@ module _ (x : Syntax) (s : List ℕ) (r : Reader) (apart : (b : ℕ) → is_digi
     go :
         (o : Option ℕ) → (next_of m s st r).byte ≡ o → (next_of m s st r).state.cursor ≡ at + length (byte_taken o)
         → take (length (byte_taken o)) (drop at s) ≡ byte_taken o → left at ≡ byte_taken o ++ left (next_of m s st r).state.cursor
-    go none e moved bytes = ap left (sym (moved ∙ add-zero at))
-    go (some c) e moved bytes =
+    go None e moved bytes = ap left (sym (moved ∙ add-zero at))
+    go (Some c) e moved bytes =
         let there : drop at s ≡ c ∷ drop (at + 1) s = first_then (drop at s) c bytes ∙ ap (λ (l : List ℕ). c ∷ l) (drop-drop 1 at s) in
         ap (others x.separator) there ∙ rw (apart c (digit c e), moved)
 

@@ -1,7 +1,6 @@
 -- A digit run (document 02, 2026-01): "takes by one counted reader (0 to 2) go on while the next peeked byte is a digit, and the answer is
 -- the exact 64-bit value, with the first other byte untaken." Assumes nothing.
-use Rattle.std.specs.Prelude.{ℕ, zero, suc, ◌+◌, ◌^◌, Bool, false, cond, not, List, [], ◌∷◌, ◌++◌, eqb, ltb, length}
-use Rattle.std.proofs.Math.Option.{Option, some, none}
+use Rattle.std.specs.Prelude.{ℕ, zero, suc, ◌+◌, ◌^◌, Bool, false, cond, not, List, [], ◌∷◌, ◌++◌, eqb, ltb, length, Option, Some, None, Result, Ok, Err}
 use Rattle.word.specs.Check.{line, first_failing}
 use Rattle.reader.specs.declared.state.Reader.{Reader}
 use Rattle.reader.specs.declared.state.State.{State}
@@ -11,9 +10,9 @@ use Rattle.reader.specs.Answer.{Outcome, number_of}
 use Rattle.reader.specs.Calls.{peek_of, next_of}
 use Rattle.reader.specs.ZeroSkip.{skip_refusal}
 use Rattle.reader.specs.History.{byte_taken}
-use Rattle.cells.specs.declared.digit_run.Number.{Number}
-use Rattle.cells.specs.declared.digit_run.Number.TheVariants as number
-use Rattle.cells.specs.declared.digit_run.RunAnswer.{RunAnswer}
+use Rattle.reader.specs.declared.answer.Answer.{Answer}
+use Rattle.cells.specs.declared.digit_run.RunError.{RunError}
+use Rattle.cells.specs.declared.digit_run.RunError.TheVariants.{NoDigit, AboveWidth, Refused}
 use Rattle.cells.specs.Value.{value_of}
 
 -- THE DIGITS TAKEN, and the state behind them. Nothing here is refused by 23 or 24.
@@ -33,8 +32,8 @@ step_then seen took rest =
     record { digits = byte_taken took.byte ++ rest.digits; passed = seen.passed + took.passed + rest.passed; state = rest.state }
 
 abbrev pub sees_digit : Reading → Option ℕ → Bool
-sees_digit m none = false
-sees_digit m (some b) = m.digit b
+sees_digit m None = false
+sees_digit m (Some b) = m.digit b
 
 -- "Each step peeks, then takes from the state that the peek left." At most n steps, and the peek that ends the run.
 unfoldable pub digits_from : ℕ → Reading → List ℕ → Reader → State → Digits
@@ -59,10 +58,10 @@ pub record RunOutcome : Type 0 where
   pub state : State
 
 abbrev pub refused_run : ℕ → State → RunOutcome
-refused_run number st = record { refusal = number; value = none; taken = 0; passed = 0; state = st }
+refused_run number st = record { refusal = number; value = None; taken = 0; passed = 0; state = st }
 
 abbrev pub read_run : ℕ → Digits → RunOutcome
-read_run v run = record { refusal = 0; value = some v; taken = length run.digits; passed = run.passed; state = run.state }
+read_run v run = record { refusal = 0; value = Some v; taken = length run.digits; passed = run.passed; state = run.state }
 
 -- "23 no digit and 24 value above 64 bits, tested in that order"
 abbrev pub line23 : List ℕ → ℕ
@@ -88,18 +87,19 @@ digit_run_of x s st r =
 
 -- WHAT THE CASES OF THE ANSWER SAY
 
-abbrev pub run_number : Number → ℕ
-run_number (number.Value v) = 0
-run_number number.NoDigit = 23
-run_number number.AboveWidth = 24
-run_number (number.Refused e) = number_of e
+abbrev pub error_number : RunError → ℕ
+error_number NoDigit = 23
+error_number AboveWidth = 24
+error_number (Refused e) = number_of e
 
-abbrev pub run_value : Number → Option ℕ
-run_value (number.Value v) = some v
-run_value number.NoDigit = none
-run_value number.AboveWidth = none
-run_value (number.Refused e) = none
+abbrev pub run_number : Result ℕ RunError → ℕ
+run_number (Ok v) = 0
+run_number (Err e) = error_number e
 
-abbrev pub run_outcome_of : RunAnswer → RunOutcome
+abbrev pub run_value : Result ℕ RunError → Option ℕ
+run_value (Ok v) = Some v
+run_value (Err e) = None
+
+abbrev pub run_outcome_of : Answer (Result ℕ RunError) → RunOutcome
 run_outcome_of a =
-    record { refusal = run_number a.report.number; value = run_value a.report.number; taken = a.report.taken; passed = a.report.passed; state = a.state }
+    record { refusal = run_number a.report.found; value = run_value a.report.found; taken = a.report.taken; passed = a.report.passed; state = a.state }

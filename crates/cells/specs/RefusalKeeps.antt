@@ -1,6 +1,5 @@
 -- Demand 1 of a digit run: "Numbers added here and later join 01's table and demand 1." Assumes nothing.
-use Rattle.std.specs.Prelude.{◌≡◌, ◌⊎◌, List, [], ℕ, ◌≤◌, ◌^◌}
-use Rattle.std.proofs.Math.Option.{none}
+use Rattle.std.specs.Prelude.{◌≡◌, ◌⊎◌, List, [], ℕ, ◌≤◌, ◌^◌, None}
 use Rattle.reader.specs.declared.state.Reader.{Reader}
 use Rattle.reader.specs.declared.state.State.{State}
 use Rattle.reader.specs.declared.passing.Syntax.{Syntax}
@@ -25,4 +24,4 @@ pub record RunRefusalKeeps (x : Syntax) (s : List ℕ) (given : State) (r : Read
   pub taken : o.taken ≡ 0
   pub passed : o.passed ≡ 0
   pub state : o.state ≡ given
-  pub value : o.value ≡ none
+  pub value : o.value ≡ None

@@ -3,38 +3,40 @@ ghost use Rattle.std.specs.Prelude.{◌≡◌, true, cond, ◌+◌, ◌≤◌, �
 ghost use Rattle.reader.specs.Reading.{syntax_for, reading_with, reading_for, has_any_flag, passed_at};
 ghost use Rattle.reader.specs.Calls.{next_of};
 ghost use Rattle.reader.specs.ZeroSkip.{skip_refusal};
-ghost use Rattle.cells.specs.DigitRun.{run_outcome_of, digit_run_of};
+ghost use Rattle.cells.specs.DigitRun.{error_number, run_outcome_of, digit_run_of};
 ghost use Rattle.cells.specs.Code.Steps.{step_behind, Stands, StepTold, still_refused, ended_run};
 
 use crate::value::with_digit;
+use reader::answer::Answer;
 use reader::iterator::admit_run;
 use reader::passing::{Syntax, syntax_for};
 use reader::rule::Flags;
-use reader::skip::{Seen, next, peek};
-use reader::state::{Admission, Reader, Refusal, State, moved, with_count};
+use reader::skip::{next, peek};
+use reader::state::{Reader, Refusal, State, moved, with_count};
 use word::digit::char_is_digit_by_table;
 
-// What a run comes to: its exact value, or why it is refused.
-#[derive(Clone, Copy)]
-pub enum Number {
-    Value(u64),
+// Why a run has no value.
+#[derive(Clone, Copy, Debug, PartialEq, Eq)]
+pub enum RunError {
     NoDigit,
     AboveWidth,
     Refused(Refusal),
 }
 
-// An answer without the state, as a take's.
-#[derive(Clone, Copy)]
-pub struct RunReport {
-    pub number: Number,
-    pub taken: usize,
-    pub passed: usize,
-}
+// What a run comes to: its exact value.
+pub type Run = Result<u64, RunError>;
 
-#[derive(Clone, Copy)]
-pub struct RunAnswer {
-    pub report: RunReport,
-    pub state: State,
+impl RunError {
+    // Its number in the log.
+    pub fn number(self) -> u32
+        ensures { result ≡ error_number self }
+    {
+        match self {
+            RunError::NoDigit => 23,
+            RunError::AboveWidth => 24,
+            RunError::Refused(refusal) => refusal.number(),
+        }
+    }
 }
 
 // A step of a run: a byte taken, with the place and the reader's count behind it and how many separators were passed; or the end of the
@@ -51,19 +53,17 @@ fn take_seen(s: &[u8], seen: State, reader: Reader, over: usize) -> Step
     ensures { result ≡ step_behind reader over (next_of (reading_for seen reader) s.now seen reader) }
 {
     let took = next(s, seen, reader);
-    let report = took.report;
-    let all = over + report.passed;
+    let all = over + took.report.passed;
     let to = took.state.cursor;
     let behind = took.state.count(reader);
-    let byte = report.seen;
-    match byte {
-        Seen::Byte(c) => Step::Taken(c, to, behind, all),
-        Seen::End => Step::Over(to, all),
-        Seen::Refused(refusal) => Step::Over(to, all),
+    match took.byte() {
+        Some(c) => Step::Taken(c, to, behind, all),
+        None => Step::Over(to, all),
     }
 }
 
-// A step from a separator, by the reader's own peek and take.
+// A step from a separator, by the reader's own peek and take. The syntax is that of the state, handed on: to read it out of the word costs
+// more than a step.
 fn separator_step(
     s: &[u8],
     state: State,
@@ -77,19 +77,16 @@ fn separator_step(
 {
     let here = with_count(moved(state, at), reader, count);
     let seen = peek(s, here, reader);
-    let report = seen.report;
-    let over = report.passed;
+    let over = seen.report.passed;
     let left = seen.state;
-    let byte = report.seen;
-    match byte {
-        Seen::Byte(b) => {
+    match seen.byte() {
+        Some(b) => {
             if char_is_digit_by_table(b, syntax.radix) {
                 return take_seen(s, left, reader, over);
             }
             Step::Over(left.cursor, over)
         }
-        Seen::End => Step::Over(left.cursor, over),
-        Seen::Refused(refusal) => Step::Over(left.cursor, over),
+        None => Step::Over(left.cursor, over),
     }
 }
 
@@ -141,29 +138,18 @@ fn stays_refused(syntax: Syntax, c: u8, over: usize, count: usize) -> bool
     syntax.flags.consecutive & (c == syntax.separator) & (over == 0) & (count != 0)
 }
 
-fn run_answered(number: Number, taken: usize, passed: usize, state: State) -> RunAnswer
-    ensures { result ≡ record { report = record { number = number; taken = taken; passed = passed }; state = state } }
-{
-    let report = RunReport {
-        number,
-        taken,
-        passed,
-    };
-    RunAnswer { report, state }
-}
-
 // The answer of a run from `state` that is over at `end`.
-fn ended(state: State, value: u64, taken: usize, passed: usize, end: State) -> RunAnswer
+fn ended(state: State, value: u64, taken: usize, passed: usize, end: State) -> Answer<Run>
     ensures { run_outcome_of result ≡ ended_run state value taken passed end }
 {
     if taken == 0 {
-        return run_answered(Number::NoDigit, 0, 0, state);
+        return Answer::refused(RunError::NoDigit, state);
     }
-    run_answered(Number::Value(value), taken, passed, end)
+    Answer::new(value, taken, passed, end)
 }
 
 // The run of a state that is not refused. The loop keeps numbers only, and makes the state at its end.
-fn take_digits(s: &[u8], state: State, syntax: Syntax, reader: Reader) -> RunAnswer
+fn take_digits(s: &[u8], state: State, syntax: Syntax, reader: Reader) -> Answer<Run>
     requires { (syntax ≡ syntax_for state reader) × (skip_refusal syntax.flags s.now state reader ≡ 0) }
     ensures { run_outcome_of result ≡ digit_run_of syntax s.now state reader }
 {
@@ -173,16 +159,16 @@ fn take_digits(s: &[u8], state: State, syntax: Syntax, reader: Reader) -> RunAns
     let mut taken: usize = 0;
     let mut passed: usize = 0;
     let mut refused = false;
+    // No `for`: how far a step goes on is known once it is made.
     loop {
         let step = step_at(s, state, syntax, reader, refused, at, count);
         match step {
             Step::Taken(c, to, behind, over) => {
-                let grown = with_digit(value, syntax.radix, c);
-                if !grown.fits {
-                    return run_answered(Number::AboveWidth, 0, 0, state);
-                }
+                let Some(grown) = with_digit(value, syntax.radix, c) else {
+                    return Answer::refused(RunError::AboveWidth, state);
+                };
                 refused = stays_refused(syntax, c, over, count);
-                value = grown.value;
+                value = grown;
                 taken += 1;
                 passed += over;
                 at = to;
@@ -198,12 +184,11 @@ fn take_digits(s: &[u8], state: State, syntax: Syntax, reader: Reader) -> RunAns
 }
 
 // Takes the digits under the cursor, until a peek sees another byte or the end: their exact value.
-pub fn digit_run(s: &[u8], state: State, reader: Reader) -> RunAnswer
+pub fn digit_run(s: &[u8], state: State, reader: Reader) -> Answer<Run>
     ensures { run_outcome_of result ≡ digit_run_of (syntax_for state reader) s.now state reader }
 {
-    let admitted = admit_run(s, state, reader);
-    match admitted {
-        Admission::Admitted => take_digits(s, state, syntax_for(state, reader), reader),
-        Admission::Refused(refusal) => run_answered(Number::Refused(refusal), 0, 0, state),
+    match admit_run(s, state, reader) {
+        Ok(()) => take_digits(s, state, syntax_for(state, reader), reader),
+        Err(refusal) => Answer::refused(RunError::Refused(refusal), state),
     }
 }

@@ -4,57 +4,33 @@ ghost use Rattle.word.specs.Digit.{digit_value};
 ghost use Rattle.cells.specs.Value.{with_digit};
 ghost use Rattle.cells.specs.Code.Growth.{grown_to};
 
-use word::digit::{DigitValue, digit_value};
+use word::digit::digit_value;
 
-#[derive(Clone, Copy)]
-pub struct Grown {
-    pub fits: bool,
-    pub value: u64,
-}
-
-fn wide(b: u8) -> u64
-    ensures { (result ≡ b) × (result < 256) }
-{
-    b as u64
-}
-
-// By halves of 32 bits: nothing overflows on the way, and nothing is divided by the radix. Most values are so small that no digit of any
-// radix takes them above 64 bits.
-fn times_plus(value: u64, radix: u64, digit: u64) -> Grown
+// Most values are so small that no digit of any radix takes them above 64 bits. The others are multiplied in 128, so nothing is divided by
+// the radix, as `checked_mul` would do.
+fn times_plus(value: u64, radix: u64, digit: u64) -> Option<u64>
     requires { (radix < 256) × (digit < 256) }
     ensures { result ≡ grown_to (value * radix + digit) }
 {
-    let small = value < 72057594037927936;
+    let small = value < 1 << 56;
     if small {
-        return Grown {
-            fits: true,
-            value: value * radix + digit,
-        };
+        return Some(value * radix + digit);
     }
-    let high = value / 4294967296;
-    let low = value % 4294967296;
-    let below = low * radix + digit;
-    let above = high * radix + below / 4294967296;
-    let fits = above < 4294967296;
+    let whole = u128::from(value) * u128::from(radix) + u128::from(digit);
+    let fits = whole < 1 << 64;
     if fits {
-        return Grown {
-            fits: true,
-            value: above * 4294967296 + below % 4294967296,
-        };
+        return Some(whole as u64);
     }
-    Grown {
-        fits: false,
-        value: 0,
-    }
+    None
 }
 
 // A value with the digit c behind it.
-pub(crate) fn with_digit(value: u64, radix: u8, c: u8) -> Grown
+pub(crate) fn with_digit(value: u64, radix: u8, c: u8) -> Option<u64>
     ensures { result ≡ grown_to (with_digit radix value (digit_value c)) }
 {
     let digit = digit_value(c);
     match digit {
-        DigitValue::Value(d) => times_plus(value, wide(radix), wide(d)),
-        DigitValue::NoValue => Grown { fits: true, value },
+        Some(d) => times_plus(value, u64::from(radix), u64::from(d)),
+        None => Some(value),
     }
 }

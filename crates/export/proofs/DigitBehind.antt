@@ -1,9 +1,9 @@
 -- A separator right before a digit is passed by every reader with the internal flag, once it has counted, and so is a run of them where
 -- it passes several at once: for the quick ways of grouped cells and of a call at such a separator. Assumes nothing.
+use Rattle.std.specs.Prelude.{Some}
 use mathlib.Core.Path.{◌≡◌, ◌∙◌, refl, sym}
 use mathlib.Core.Bool.{Bool, true, false, cond, false≢true}
 use mathlib.Core.List.{List}
-use mathlib.Core.Option.{some}
 use Prim.Native.Nat.{ℕ, suc, ◌+◌, ◌<◌}
 use native.Mathlib.Numerals.{add-one}
 use lib.ListN.{length, drop, get_or}
@@ -35,14 +35,14 @@ rule_between f p n i e d o = rw i (go f.leading f.trailing f.consecutive) where
 -- behind a run stands no separator
 pub other_behind : (separator : ℕ) (s : List ℕ) (at n : ℕ) → 0 < separator → n ≡ run_end separator s at → n < length s → get_or s n 0 ≡ separator → ⊥
 other_behind separator s at n positive ends more equal =
-    let first : first_other separator (drop at s) ≡ some (get_or s n 0) = sym (run_byte separator s at) ∙ rw (sym ends) (byte_here s n more) in
+    let first : first_other separator (drop at s) ≡ Some (get_or s n 0) = sym (run_byte separator s at) ∙ rw (sym ends) (byte_here s n more) in
     false≢true (sym (other_differs separator (drop at s) (get_or s n 0) first) ∙ is_separator_lem separator (get_or s n 0) positive equal)
 
 module _ (x : Syntax) (s : List ℕ) (at : ℕ) (inside : at < length s) (positive : 0 < x.separator) (equal : get_or s at 0 ≡ x.separator) where
   -- the place behind the separator, or behind its run where runs are passed at once
   module _ (place : ℕ) (behind : place ≡ at + cond x.flags.consecutive (separator_run x.separator (drop at s)) 1)
       (more : place < length s) (differ : get_or s place 0 ≡ x.separator → ⊥) where
-    byte_behind : nearest x.separator x.flags.consecutive (after s at) ≡ some (get_or s place 0)
+    byte_behind : nearest x.separator x.flags.consecutive (after s at) ≡ Some (get_or s place 0)
     byte_behind = sym (go x.flags.consecutive behind) ∙ byte_here s place more where
       go : (c : Bool) → place ≡ at + cond c (separator_run x.separator (drop at s)) 1 → byte_at s place ≡ nearest x.separator c (after s at)
       go true e = rw (e, ← run_over x.separator s at inside positive equal, add-one) (run_byte x.separator s (suc at))
@@ -52,7 +52,7 @@ module _ (x : Syntax) (s : List ℕ) (at : ℕ) (inside : at < length s) (positi
     unfolding reading_with neighbour_of
     lands_behind digit internal =
         passes_behind x s false at inside positive equal true
-        (rw byte_behind (rule_between x.flags (previous (reading_with x) s at) (neighbour_of (reading_with x) (some (get_or s place 0))) internal refl digit (no_separator x.separator _ differ)))
+        (rw byte_behind (rule_between x.flags (previous (reading_with x) s at) (neighbour_of (reading_with x) (Some (get_or s place 0))) internal refl digit (no_separator x.separator _ differ)))
         place refl behind
 
   pub lands_between : at + 1 < length s → (get_or s (at + 1) 0 ≡ x.separator → ⊥) → is_digit (get_or s (at + 1) 0) x.radix ≡ true → x.flags.internal ≡ true

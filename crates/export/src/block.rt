@@ -1,50 +1,73 @@
 // The block take. The part of the caller's buffer that it takes crosses as the place where it begins and its length.
 ghost use Rattle.std.specs.Prelude.{◌≡◌};
-ghost use Rattle.reader.specs.Answer.{block_outcome_of};
+ghost use Rattle.reader.specs.Answer.{number_of};
+ghost use Rattle.reader.specs.Reading.{reading_for};
+ghost use Rattle.reader.specs.Block.{take_n_of};
 ghost use Rattle.export.specs.State.{state_in, state_words};
 ghost use Rattle.export.specs.Answer.{block_words};
 ghost use Rattle.export.specs.Calls.{block_taken_by};
-ghost use Rattle.export.specs.Code.Reply.{block_reply};
+ghost use Rattle.export.specs.Code.Reply.{reply_of, block_reply};
+ghost use Rattle.export.specs.Code.Block.{place_told, place_in};
 
-use crate::reply::{Reply, put, refused};
-use crate::state::{reader_on, state_in};
-use reader::skip::{Block, BlockAnswer, take_n};
-use reader::state::Named;
+use crate::reply::{Tell, Told, served};
+use reader::answer::{Answer, Block, Report};
+use reader::skip::take_n;
+use reader::state::{Reader, Refusal, State};
 
-// An answer to a block take at a cursor.
-fn of_block(answer: BlockAnswer, cursor: usize, old: u64) -> Reply
-    ensures { result ≡ block_reply old cursor (block_outcome_of answer) }
+// The place where a block begins.
+#[derive(Clone, Copy)]
+pub struct Place(pub usize);
+
+// A block is told by its place.
+impl Tell for Option<Place> {
+    ghost told_as = { place_told };
+
+    fn told(self) -> Told {
+        match self {
+            Some(place) => Told {
+                how: 1,
+                value: Some(place.0 as u64),
+            },
+            None => Told {
+                how: 0,
+                value: None,
+            },
+        }
+    }
+}
+
+fn place_in(found: Block, cursor: usize) -> Result<Option<Place>, Refusal>
+    ensures { result ≡ place_in cursor found }
 {
+    match found {
+        Ok(Some(_)) => Ok(Some(Place(cursor))),
+        Ok(None) => Ok(None),
+        Err(refusal) => Err(refusal),
+    }
+}
+
+// A block take whose block is told by its place.
+fn take_placed(
+    s: &[u8],
+    here: State,
+    reader: Reader,
+    n: usize,
+) -> Answer<Result<Option<Place>, Refusal>>
+    ensures { reply_of place_told number_of result ≡ block_reply here.cursor (take_n_of (reading_for here reader) s.now here reader n) }
+{
+    let answer = take_n(s, here, reader, n);
     let report = answer.report;
-    let block = report.block;
-    let state = answer.state;
     let taken = report.taken;
     let passed = report.passed;
-    match block {
-        Block::Taken => Reply {
-            number: 0,
-            state,
-            found: 1,
-            value: cursor as u64,
+    let found = place_in(report.found, here.cursor);
+    let state = answer.state;
+    Answer {
+        report: Report {
+            found,
             taken,
             passed,
         },
-        Block::None => Reply {
-            number: 0,
-            state,
-            found: 0,
-            value: old,
-            taken,
-            passed,
-        },
-        Block::Refused(refusal) => Reply {
-            number: refusal.number(),
-            state,
-            found: 0,
-            value: old,
-            taken,
-            passed,
-        },
+        state,
     }
 }
 
@@ -61,17 +84,10 @@ pub extern "C" fn pawhetino_take_n(
     ensures moved { state.new ≡ state_words state.old (block_taken_by reader state.old s.now n).state }
     ensures written { answer.new ≡ block_words answer.old (state_in state.old).cursor (block_taken_by reader state.old s.now n) }
 {
-    let old = answer[1];
-    let here = state_in(&*state);
-    let by = reader_on(reader, state[7]);
-    match by {
-        Named::Known(x) => {
-            let reply = of_block(take_n(s, here, x, n), here.cursor, old);
-            put(reply, &mut *state, &mut *answer)
-        }
-        Named::Unknown => {
-            let reply = refused(19, here, old);
-            put(reply, &mut *state, &mut *answer)
-        }
-    }
+    served(
+        reader,
+        &mut *state,
+        &mut *answer,
+        |here, x| take_placed(s, here, x, n),
+    )
 }

@@ -4,8 +4,7 @@ ghost use Rattle.export.specs.Answer.{or_old};
 ghost use Rattle.export.specs.Calls.{counted_for};
 
 use crate::state::{reader_on, state_in};
-use reader::skip::{Count, current_count};
-use reader::state::Named;
+use reader::skip::current_count;
 
 // How many digits a reader has counted, as lexical-util shows it. A refusal leaves the count as it was.
 #[unsafe(no_mangle)]
@@ -20,16 +19,13 @@ pub extern "C" fn pawhetino_current_count(
 {
     let by = reader_on(reader, state[7]);
     match by {
-        Named::Known(x) => {
-            let shown = current_count(s, state_in(state), x);
-            match shown {
-                Count::Shown(n) => {
-                    *count = n;
-                    0
-                }
-                Count::Refused(refusal) => refusal.number(),
+        Ok(x) => match current_count(s, state_in(state), x) {
+            Ok(n) => {
+                *count = n;
+                0
             }
-        }
-        Named::Unknown => 19,
+            Err(refusal) => refusal.number(),
+        },
+        Err(_) => 19,
     }
 }

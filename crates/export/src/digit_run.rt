@@ -1,64 +1,37 @@
 // Digit runs. Most cells are decimal, are read from a fresh state and begin with a digit, and each of their separators stands right before
 // one: such cells go by numbers, and nothing is asked of the rule table.
-ghost use Rattle.std.specs.Prelude.{◌≡◌, true, false, not, ◌+◌, ◌*◌, ◌-◌, ◌<◌, ◌≤◌, eqb};
-ghost use Rattle.cells.specs.DigitRun.{run_outcome_of};
+ghost use Rattle.std.specs.Prelude.{◌≡◌, [], ◌∷◌, ◌+◌, ◌*◌, ◌-◌, ◌<◌, ◌≤◌, cond, nat_eq, Some, None, IfSome};
+ghost use Rattle.cells.specs.DigitRun.{error_number};
 ghost use Rattle.export.specs.State.{state_words};
 ghost use Rattle.export.specs.Answer.{value_words};
 ghost use Rattle.export.specs.Calls.{digit_run_by};
-ghost use Rattle.export.specs.Code.Reply.{value_reply};
+ghost use Rattle.export.specs.Code.Reply.{run_told};
+ghost use Rattle.export.specs.Code.FreshWords.{end_words};
 ghost use Rattle.export.specs.Code.GroupedRun.{GroupedRun as Run};
 
+use crate::fresh::{fresh_format, put_counted};
 use crate::here::radix_of;
-use crate::next_all::own;
-use crate::over::has_internal;
-use crate::reply::{Reply, put, refused, wide};
-use crate::state::{reader_on, state_in};
-use cells::digit_run::{Number, RunAnswer, digit_run};
-use reader::state::Named;
+use crate::reply::{Numbered, Tell, Told, served};
+use cells::digit_run::{RunError, digit_run};
 use word::digit::char_is_digit_by_range;
-use word::format_flags::Format;
 
-fn of_run(answer: RunAnswer, old: u64) -> Reply
-    ensures { result ≡ value_reply old (run_outcome_of answer) }
-{
-    let report = answer.report;
-    let number = report.number;
-    let state = answer.state;
-    let taken = report.taken;
-    let passed = report.passed;
-    match number {
-        Number::Value(value) => Reply {
-            number: 0,
-            state,
-            found: 1,
-            value,
-            taken,
-            passed,
-        },
-        Number::NoDigit => Reply {
-            number: 23,
-            state,
-            found: 0,
-            value: old,
-            taken,
-            passed,
-        },
-        Number::AboveWidth => Reply {
-            number: 24,
-            state,
-            found: 0,
-            value: old,
-            taken,
-            passed,
-        },
-        Number::Refused(refusal) => Reply {
-            number: refusal.number(),
-            state,
-            found: 0,
-            value: old,
-            taken,
-            passed,
-        },
+// The value of the digits.
+impl Tell for u64 {
+    ghost told_as = { run_told };
+
+    fn told(self) -> Told {
+        Told {
+            how: 1,
+            value: Some(self),
+        }
+    }
+}
+
+impl Numbered for RunError {
+    ghost number_as = { error_number };
+
+    fn told_number(self) -> u32 {
+        self.number()
     }
 }
 
@@ -68,57 +41,39 @@ fn digit_run_any(s: &[u8], reader: u8, state: &mut [u64; 8], answer: &mut [u64; 
     ensures moved { state.new ≡ state_words state.old (digit_run_by reader state.old s.now).state }
     ensures written { answer.new ≡ value_words answer.old (digit_run_by reader state.old s.now) }
 {
-    let old = answer[1];
-    let here = state_in(&*state);
-    let by = reader_on(reader, state[7]);
-    match by {
-        Named::Known(x) => {
-            let reply = of_run(digit_run(s, here, x), old);
-            put(reply, &mut *state, &mut *answer)
-        }
-        Named::Unknown => {
-            let reply = refused(19, here, old);
-            put(reply, &mut *state, &mut *answer)
-        }
-    }
+    served(
+        reader,
+        &mut *state,
+        &mut *answer,
+        |here, x| digit_run(s, here, x),
+    )
 }
 
-// What the digits of a grouped cell come to: whether it is one, and then where they end, their value, how many they are and the
-// separators passed.
+// What the digits of a grouped cell come to: where they end, their value, how many they are and the separators passed.
 #[derive(Clone, Copy)]
 pub struct GroupedRun {
-    pub is_so: bool,
     pub at: usize,
     pub value: u64,
     pub count: usize,
     pub passed: usize,
 }
 
-fn not_grouped() -> GroupedRun
-    ensures { result ≡ record { is_so = false; at = 0; value = 0; count = 0; passed = 0 } }
-{
-    GroupedRun {
-        is_so: false,
-        at: 0,
-        value: 0,
-        count: 0,
-        passed: 0,
-    }
-}
-
 // It is one if it has a digit: what was gone over and not passed was taken.
-fn grouped(at: usize, value: u64, passed: usize) -> GroupedRun
+fn grouped(at: usize, value: u64, passed: usize) -> Option<GroupedRun>
     requires { passed ≤ at }
-    ensures { result ≡ record { is_so = not (eqb at 0); at = at; value = value; count = at - passed; passed = passed } }
+    ensures { result ≡ cond (nat_eq at 0) None (Some (record { at = at; value = value; count = at - passed; passed = passed })) }
 {
+    let none = at == 0;
+    if none {
+        return None;
+    }
     let count = at - passed;
-    GroupedRun {
-        is_so: at != 0,
+    Some(GroupedRun {
         at,
         value,
         count,
         passed,
-    }
+    })
 }
 
 // From this on a figure more may take a value above 64 bits.
@@ -129,12 +84,12 @@ fn with_figure(value: u64, b: u8) -> u64
     requires { (value < 1844674407370955161) × ((48 ≤ b) × (b ≤ 57)) }
     ensures { result ≡ value * 10 + (b - 48) }
 {
-    value * 10 + wide(b - 48)
+    value * 10 + u64::from(b - 48)
 }
 
-// The digits of a decimal cell.
-fn grouped_run(s: &[u8], separator: u8) -> GroupedRun
-    ensures { result.is_so ≡ true → Run separator 10 s.now result.at result.value result.count result.passed }
+// The digits of a decimal cell. The loop looks at the byte behind a separator too, so it goes by an index.
+fn grouped_run(s: &[u8], separator: u8) -> Option<GroupedRun>
+    ensures { IfSome result (λ run. Run separator 10 s.now run.at run.value run.count run.passed) }
 {
     let mut at: usize = 0;
     let mut value: u64 = 0;
@@ -144,19 +99,19 @@ fn grouped_run(s: &[u8], separator: u8) -> GroupedRun
         if b == separator {
             let n = at + 1;
             if s.len() <= n {
-                return not_grouped();
+                return None;
             }
             let early = at == 0;
             if early {
-                return not_grouped();
+                return None;
             }
             let c = s[n];
             let double = c == separator;
             if double {
-                return not_grouped();
+                return None;
             }
             if !char_is_digit_by_range(c, 10) {
-                return not_grouped();
+                return None;
             }
             passed += 1;
             at = n;
@@ -166,12 +121,25 @@ fn grouped_run(s: &[u8], separator: u8) -> GroupedRun
             return grouped(at, value, passed);
         }
         if LARGE <= value {
-            return not_grouped();
+            return None;
         }
         value = with_figure(value, b);
         at += 1;
     }
     grouped(at, value, passed)
+}
+
+// Writes what a run of digits has come to, from a fresh state.
+fn put_run(reader: u8, run: GroupedRun, state: &mut [u64; 8], answer: &mut [u64; 4]) -> u32
+    ensures number { result ≡ 0 }
+    ensures moved { state.new ≡ end_words reader run.at run.count state.old }
+    ensures written { answer.new ≡ (1 ∷ run.value ∷ run.count ∷ run.passed ∷ []) }
+{
+    put_counted(reader, run.at, run.count, &mut *state);
+    let count = run.count as u64;
+    let passed = run.passed as u64;
+    *answer = [1, run.value, count, passed];
+    0
 }
 
 // Takes the digits under the cursor, until a peek sees another byte or the end: their exact value.
@@ -186,54 +154,15 @@ pub extern "C" fn pawhetino_digit_run(
     ensures moved { state.new ≡ state_words state.old (digit_run_by reader state.old s.now).state }
     ensures written { answer.new ≡ value_words answer.old (digit_run_by reader state.old s.now) }
 {
-    let cursor = state[2];
-    let edition = state[7];
-    let other = (2 < reader) | (cursor != 0) | (edition != 0);
-    if other {
+    let Some(format) = fresh_format(reader, &*state) else {
         return digit_run_any(&s[..], reader, &mut *state, &mut *answer);
-    }
-    let integer = state[3];
-    let fraction = state[4];
-    let exponent = state[5];
-    if (integer != 0) | (fraction != 0) | (exponent != 0) {
-        return digit_run_any(&s[..], reader, &mut *state, &mut *answer);
-    }
-    let lo = state[0];
-    let hi = state[1];
-    let format = Format { lo, hi };
-    let separator = format.digit_separator();
-    let unset = separator == 0;
-    if unset {
-        return digit_run_any(&s[..], reader, &mut *state, &mut *answer);
-    }
-    if !has_internal(format, reader) {
-        return digit_run_any(&s[..], reader, &mut *state, &mut *answer);
-    }
+    };
     let lettered = radix_of(format) != 10;
     if lettered {
         return digit_run_any(&s[..], reader, &mut *state, &mut *answer);
     }
-    let grouped = grouped_run(s, separator);
-    if !grouped.is_so {
-        return digit_run_any(&s[..], reader, &mut *state, &mut *answer);
+    match grouped_run(s, format.digit_separator()) {
+        Some(run) => put_run(reader, run, &mut *state, &mut *answer),
+        None => digit_run_any(&s[..], reader, &mut *state, &mut *answer),
     }
-    let count = grouped.count as u64;
-    let passed = grouped.passed as u64;
-    let at = grouped.at as u64;
-    let by_integer = own(reader, 0, count);
-    let by_fraction = own(reader, 1, count);
-    let by_exponent = own(reader, 2, count);
-    let kept = state[6];
-    *state = [
-        lo,
-        hi,
-        at,
-        by_integer,
-        by_fraction,
-        by_exponent,
-        kept,
-        edition,
-    ];
-    *answer = [1, grouped.value, count, passed];
-    0
 }

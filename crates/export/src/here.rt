@@ -1,6 +1,6 @@
 // The quick way of the calls of one byte: most of them find a byte that is no separator under the cursor of a counted reader, or the end,
 // and nothing is passed there. Whatever else there is, the reader's own call looks into.
-ghost use Rattle.std.specs.Prelude.{◌≡◌, [], ◌∷◌, ◌+◌, ◌/◌, ◌<◌, ◌≤◌, ◌^◌, leb, get_or};
+ghost use Rattle.std.specs.Prelude.{◌≡◌, [], ◌∷◌, ◌+◌, ◌/◌, ◌<◌, ◌≤◌, ◌^◌, nat_le, slice_index};
 ghost use Rattle.word.specs.Word.{mantissa_radix};
 ghost use Rattle.reader.specs.Reading.{has_any_flag, is_consecutive_alone};
 ghost use Rattle.export.specs.State.{state_in, state_words};
@@ -19,13 +19,14 @@ pub enum Here {
     Other,
 }
 
-// The reader's own flags at the places of the first reader's.
+// The reader's own flags at the places of the first reader's. A reader that counts stays the caller's byte, with what is asked of it in
+// the contracts: flags and counts are found by that number, and a type for it would be opened again at each of these uses.
 pub(crate) fn own_bits(lo: u64, reader: u8) -> u64
     requires { reader ≤ 2 }
     ensures shifted { result ≡ lo / 2 ^ reader }
     ensures small { lo < 2 ^ 64 }
 {
-    lo >> (reader as u32)
+    lo >> (u32::from(reader))
 }
 
 fn is_alone(own: u64) -> bool
@@ -42,7 +43,7 @@ pub(crate) fn has_any(own: u64) -> bool
 
 // Whether the counts together are within the cursor. Nothing is added up, so nothing can overflow.
 pub(crate) fn counts_fit(cursor: u64, integer: u64, fraction: u64, exponent: u64) -> bool
-    ensures { result ≡ leb (integer + fraction + exponent) cursor }
+    ensures { result ≡ nat_le (integer + fraction + exponent) cursor }
 {
     if cursor < integer {
         return false;
@@ -94,6 +95,8 @@ pub(crate) fn found_here(s: &[u8], reader: u8, state: &[u64; 8]) -> Here
     Here::Byte(b)
 }
 
+// The eight words stay in the array that the caller lends: a struct of them would be read out and written back whole at each call.
+//
 // Writes the words that are there: nothing is compiled of it, and the contracts of the calls name all eight.
 pub(crate) fn keep(w: &mut [u64; 8])
     ensures { w.new ≡ state_words w.old (state_in w.old) }
@@ -109,21 +112,30 @@ pub(crate) fn keep(w: &mut [u64; 8])
     *w = [lo, hi, cursor, integer, fraction, exponent, kept, edition];
 }
 
-// Answers that there is no byte, and that nothing is taken or passed.
-pub(crate) fn answer_none(state: &mut [u64; 8], answer: &mut [u64; 4]) -> u32
+// Answers these four words, and the state stays.
+pub(crate) fn stay(told: [u64; 4], state: &mut [u64; 8], answer: &mut [u64; 4]) -> u32
     ensures number { result ≡ 0 }
     ensures moved { state.new ≡ state_words state.old (state_in state.old) }
-    ensures written { answer.new ≡ (0 ∷ get_or answer.old 1 0 ∷ 0 ∷ 0 ∷ []) }
+    ensures written { answer.new ≡ told }
 {
-    let old = answer[1];
-    *answer = [0, old, 0, 0];
+    *answer = told;
     keep(&mut *state);
     0
 }
 
+// Answers that there is no byte, and that nothing is taken or passed.
+pub(crate) fn answer_none(state: &mut [u64; 8], answer: &mut [u64; 4]) -> u32
+    ensures number { result ≡ 0 }
+    ensures moved { state.new ≡ state_words state.old (state_in state.old) }
+    ensures written { answer.new ≡ (0 ∷ slice_index answer.old 1 ∷ 0 ∷ 0 ∷ []) }
+{
+    let old = answer[1];
+    stay([0, old, 0, 0], &mut *state, &mut *answer)
+}
+
 // Moves the cursor to a place, and raises the reader's own count by one where a byte is counted.
 pub(crate) fn put_at(w: &mut [u64; 8], reader: u8, counted: bool, place: u64)
-    requires { (reader ≤ 2) × ((get_or w.old 3 0 + get_or w.old 4 0 + get_or w.old 5 0 ≤ get_or w.old 2 0) × (get_or w.old 2 0 + 1 < 2 ^ 64)) }
+    requires { (reader ≤ 2) × ((slice_index w.old 3 + slice_index w.old 4 + slice_index w.old 5 ≤ slice_index w.old 2) × (slice_index w.old 2 + 1 < 2 ^ 64)) }
     ensures { w.new ≡ words_at w.old reader counted place }
 {
     let lo = w[0];

@@ -19,6 +19,7 @@ pub mod block;
 pub mod column;
 pub mod count;
 pub mod digit_run;
+pub mod fresh;
 pub mod here;
 pub mod next;
 pub mod next_all;

@@ -6,10 +6,8 @@ ghost use Rattle.export.specs.Calls.{taken_by};
 
 use crate::here::{Here, answer_none, found_here, has_any, own_bits, put_at, radix_of};
 use crate::over::over_here;
-use crate::reply::{of_answer, put, refused, wide};
-use crate::state::{reader_on, state_in};
+use crate::reply::served;
 use reader::skip::next;
-use reader::state::Named;
 use word::digit::char_is_digit_by_table;
 use word::format_flags::Format;
 
@@ -19,19 +17,12 @@ fn next_any(s: &[u8], reader: u8, state: &mut [u64; 8], answer: &mut [u64; 4]) -
     ensures moved { state.new ≡ state_words state.old (taken_by reader state.old s.now).state }
     ensures written { answer.new ≡ byte_words answer.old (taken_by reader state.old s.now) }
 {
-    let old = answer[1];
-    let here = state_in(&*state);
-    let by = reader_on(reader, state[7]);
-    match by {
-        Named::Known(x) => {
-            let reply = of_answer(next(s, here, x), old);
-            put(reply, &mut *state, &mut *answer)
-        }
-        Named::Unknown => {
-            let reply = refused(19, here, old);
-            put(reply, &mut *state, &mut *answer)
-        }
-    }
+    served(
+        reader,
+        &mut *state,
+        &mut *answer,
+        |here, x| next(s, here, x),
+    )
 }
 
 // The byte under the reader's cursor, after passing what the reader may pass, and the cursor moves past it; a digit is counted.
@@ -59,7 +50,7 @@ pub extern "C" fn pawhetino_next(
             let counted = has_any(own_bits(lo, reader))
                 & char_is_digit_by_table(b, radix_of(format));
             let past = cursor + 1;
-            let byte = wide(b);
+            let byte = u64::from(b);
             *answer = [1, byte, 1, 0];
             put_at(&mut *state, reader, counted, past);
             0

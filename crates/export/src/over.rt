@@ -1,11 +1,10 @@
 // The quick way of a peek and a take at a separator: mostly it stands right before a digit, in a cell whose reader has counted and may
 // pass between digits. That one separator is then passed, whatever the other flags are.
-ghost use Rattle.std.specs.Prelude.{◌≡◌, cond, ◌+◌, ◌<◌, ◌≤◌, length, get_or};
+ghost use Rattle.std.specs.Prelude.{◌≡◌, cond, ◌+◌, ◌<◌, ◌≤◌, length, slice_index};
 ghost use Rattle.word.specs.Word.{flag};
 ghost use Rattle.export.specs.Code.Over.{is_over, over_state, over_answer};
 
 use crate::here::{put_at, radix_of};
-use crate::reply::wide;
 use word::digit::char_is_digit_by_range;
 use word::format_flags::{Format, bit_at};
 
@@ -14,7 +13,7 @@ fn has_flag(format: Format, first: u32, reader: u8) -> bool
     requires { (first ≤ 41) × (reader ≤ 2) }
     ensures { result ≡ flag format (first + reader) }
 {
-    let position = first + reader as u32;
+    let position = first + u32::from(reader);
     bit_at(format.lo, position)
 }
 
@@ -35,14 +34,14 @@ pub(crate) fn has_consecutive(format: Format, reader: u8) -> bool
 }
 
 fn is_over(s: &[u8], reader: u8, state: &[u64; 8]) -> bool
-    requires { (reader ≤ 2) × (get_or state.now 2 0 < length s.now) }
+    requires { (reader ≤ 2) × (slice_index state.now 2 < length s.now) }
     ensures { result ≡ is_over reader state.now s.now }
 {
     let lo = state[0];
     let hi = state[1];
     let format = Format { lo, hi };
     let separator = format.digit_separator();
-    let own = 3 + reader as usize;
+    let own = 3 + usize::from(reader);
     let count = state[own];
     if (separator == 0) | (count == 0) {
         return false;
@@ -70,7 +69,7 @@ pub(crate) fn over_here(
     answer: &mut [u64; 4],
     takes: bool,
 ) -> bool
-    requires { (reader ≤ 2) × ((get_or state.old 2 0 < length s.now) × (get_or state.old 3 0 + get_or state.old 4 0 + get_or state.old 5 0 ≤ get_or state.old 2 0)) }
+    requires { (reader ≤ 2) × ((slice_index state.old 2 < length s.now) × (slice_index state.old 3 + slice_index state.old 4 + slice_index state.old 5 ≤ slice_index state.old 2)) }
     ensures over { result ≡ is_over reader state.old s.now }
     ensures moved { state.new ≡ cond result (over_state reader state.old takes) state.old }
     ensures written { answer.new ≡ cond result (over_answer state.old s.now takes) answer.old }
@@ -80,7 +79,7 @@ pub(crate) fn over_here(
     }
     let next = state[2] + 1;
     let c = s[next as usize];
-    let byte = wide(c);
+    let byte = u64::from(c);
     if takes {
         let past = next + 1;
         *answer = [1, byte, 1, 1];

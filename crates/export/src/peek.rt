@@ -4,12 +4,10 @@ ghost use Rattle.export.specs.State.{state_words};
 ghost use Rattle.export.specs.Answer.{byte_words};
 ghost use Rattle.export.specs.Calls.{peeked_by};
 
-use crate::here::{Here, answer_none, found_here, keep};
+use crate::here::{Here, answer_none, found_here, stay};
 use crate::over::over_here;
-use crate::reply::{of_answer, put, refused, wide};
-use crate::state::{reader_on, state_in};
+use crate::reply::served;
 use reader::skip::peek;
-use reader::state::Named;
 
 // As the reader answers it.
 fn peek_any(s: &[u8], reader: u8, state: &mut [u64; 8], answer: &mut [u64; 4]) -> u32
@@ -17,19 +15,12 @@ fn peek_any(s: &[u8], reader: u8, state: &mut [u64; 8], answer: &mut [u64; 4]) -
     ensures moved { state.new ≡ state_words state.old (peeked_by reader state.old s.now).state }
     ensures written { answer.new ≡ byte_words answer.old (peeked_by reader state.old s.now) }
 {
-    let old = answer[1];
-    let here = state_in(&*state);
-    let by = reader_on(reader, state[7]);
-    match by {
-        Named::Known(x) => {
-            let reply = of_answer(peek(s, here, x).answer(), old);
-            put(reply, &mut *state, &mut *answer)
-        }
-        Named::Unknown => {
-            let reply = refused(19, here, old);
-            put(reply, &mut *state, &mut *answer)
-        }
-    }
+    served(
+        reader,
+        &mut *state,
+        &mut *answer,
+        |here, x| peek(s, here, x),
+    )
 }
 
 // The byte under the reader's cursor, after passing what the reader may pass.
@@ -50,10 +41,8 @@ pub extern "C" fn pawhetino_peek(
     let here = found_here(s, reader, &*state);
     match here {
         Here::Byte(b) => {
-            let byte = wide(b);
-            *answer = [1, byte, 0, 0];
-            keep(&mut *state);
-            0
+            let byte = u64::from(b);
+            stay([1, byte, 0, 0], &mut *state, &mut *answer)
         }
         Here::End => answer_none(&mut *state, &mut *answer),
         Here::Separator => {

@@ -1,16 +1,14 @@
 // Conditional reads.
-ghost use Rattle.std.specs.Prelude.{◌≡◌, eqb, ◌+◌, ◌<◌, ◌≤◌, ◌^◌, [], ◌∷◌, false, get_or};
+ghost use Rattle.std.specs.Prelude.{◌≡◌, nat_eq, ◌+◌, ◌<◌, ◌≤◌, ◌^◌, [], ◌∷◌, false, slice_index};
 ghost use Rattle.word.specs.ByteSet.{member};
 ghost use Rattle.export.specs.State.{state_in, state_words};
 ghost use Rattle.export.specs.Answer.{read_words};
 ghost use Rattle.export.specs.Calls.{read_by, set_in};
 ghost use Rattle.export.specs.Code.Here.{words_at};
 
-use crate::here::{Here, answer_none, found_here, keep, put_at};
-use crate::reply::{of_read, put, refused, wide};
-use crate::state::{reader_on, state_in};
+use crate::here::{Here, answer_none, found_here, put_at, stay};
+use crate::reply::served;
 use reader::iterator::{read_if, read_if_value_cased};
-use reader::state::Named;
 use word::byte_set::ByteSet;
 use word::format_flags::bit_at;
 
@@ -30,8 +28,8 @@ fn set_in(set: &[u64; 4]) -> ByteSet
 fn has_byte(set: &[u64; 4], b: u8) -> bool
     ensures { result ≡ member (set_in set.now) b }
 {
-    let at = (b / 64) as usize;
-    bit_at(set[at], (b % 64) as u32)
+    let at = usize::from(b / 64);
+    bit_at(set[at], u32::from(b % 64))
 }
 
 // As the reader answers it.
@@ -46,20 +44,13 @@ fn read_any(
     ensures moved { state.new ≡ state_words state.old (read_by reader state.old s.now (member (set_in set.now))).outcome.state }
     ensures written { answer.new ≡ read_words answer.old (read_by reader state.old s.now (member (set_in set.now))) }
 {
-    let old = answer[1];
     let wanted = set_in(set);
-    let here = state_in(&*state);
-    let by = reader_on(reader, state[7]);
-    match by {
-        Named::Known(x) => {
-            let reply = of_read(read_if(s, here, x, wanted), old);
-            put(reply, &mut *state, &mut *answer)
-        }
-        Named::Unknown => {
-            let reply = refused(19, here, old);
-            put(reply, &mut *state, &mut *answer)
-        }
-    }
+    served(
+        reader,
+        &mut *state,
+        &mut *answer,
+        |here, x| read_if(s, here, x, wanted),
+    )
 }
 
 // The same for one byte.
@@ -70,33 +61,26 @@ fn read_value_any(
     answer: &mut [u64; 4],
     value: u8,
 ) -> u32
-    ensures number { result ≡ (read_by reader state.old s.now (λ b. eqb b value)).outcome.refusal }
-    ensures moved { state.new ≡ state_words state.old (read_by reader state.old s.now (λ b. eqb b value)).outcome.state }
-    ensures written { answer.new ≡ read_words answer.old (read_by reader state.old s.now (λ b. eqb b value)) }
+    ensures number { result ≡ (read_by reader state.old s.now (λ b. nat_eq b value)).outcome.refusal }
+    ensures moved { state.new ≡ state_words state.old (read_by reader state.old s.now (λ b. nat_eq b value)).outcome.state }
+    ensures written { answer.new ≡ read_words answer.old (read_by reader state.old s.now (λ b. nat_eq b value)) }
 {
-    let old = answer[1];
-    let here = state_in(&*state);
-    let by = reader_on(reader, state[7]);
-    match by {
-        Named::Known(x) => {
-            let reply = of_read(read_if_value_cased(s, here, x, value), old);
-            put(reply, &mut *state, &mut *answer)
-        }
-        Named::Unknown => {
-            let reply = refused(19, here, old);
-            put(reply, &mut *state, &mut *answer)
-        }
-    }
+    served(
+        reader,
+        &mut *state,
+        &mut *answer,
+        |here, x| read_if_value_cased(s, here, x, value),
+    )
 }
 
 // Takes the byte under the cursor, uncounted.
 fn take_here(b: u8, reader: u8, state: &mut [u64; 8], answer: &mut [u64; 4], past: u64) -> u32
-    requires { (reader ≤ 2) × ((get_or state.old 3 0 + get_or state.old 4 0 + get_or state.old 5 0 ≤ get_or state.old 2 0) × (get_or state.old 2 0 + 1 < 2 ^ 64)) }
+    requires { (reader ≤ 2) × ((slice_index state.old 3 + slice_index state.old 4 + slice_index state.old 5 ≤ slice_index state.old 2) × (slice_index state.old 2 + 1 < 2 ^ 64)) }
     ensures number { result ≡ 0 }
     ensures moved { state.new ≡ words_at state.old reader false past }
     ensures written { answer.new ≡ (1 ∷ b ∷ 1 ∷ 0 ∷ []) }
 {
-    let byte = wide(b);
+    let byte = u64::from(b);
     *answer = [1, byte, 1, 0];
     put_at(&mut *state, reader, false, past);
     0
@@ -108,10 +92,8 @@ fn decline_here(b: u8, state: &mut [u64; 8], answer: &mut [u64; 4]) -> u32
     ensures moved { state.new ≡ state_words state.old (state_in state.old) }
     ensures written { answer.new ≡ (2 ∷ b ∷ 0 ∷ 0 ∷ []) }
 {
-    let byte = wide(b);
-    *answer = [2, byte, 0, 0];
-    keep(&mut *state);
-    0
+    let byte = u64::from(b);
+    stay([2, byte, 0, 0], &mut *state, &mut *answer)
 }
 
 // Takes the byte, uncounted, where it is in the set of 256 bits, the lowest 64 first. Where it is not, the byte is told as declined, and
@@ -146,7 +128,8 @@ pub extern "C" fn pawhetino_read_if(
     }
 }
 
-// The same for one byte.
+// The same for one byte. What the two share stands in `take_here`, `decline_here`, `answer_none` and `served`; with the test handed in as
+// a closure there would be as much beside it.
 #[unsafe(no_mangle)]
 pub extern "C" fn pawhetino_read_if_value_cased(
     s: &[u8],
@@ -155,9 +138,9 @@ pub extern "C" fn pawhetino_read_if_value_cased(
     answer: &mut [u64; 4],
     value: u8,
 ) -> u32
-    ensures number { result ≡ (read_by reader state.old s.now (λ b. eqb b value)).outcome.refusal }
-    ensures moved { state.new ≡ state_words state.old (read_by reader state.old s.now (λ b. eqb b value)).outcome.state }
-    ensures written { answer.new ≡ read_words answer.old (read_by reader state.old s.now (λ b. eqb b value)) }
+    ensures number { result ≡ (read_by reader state.old s.now (λ b. nat_eq b value)).outcome.refusal }
+    ensures moved { state.new ≡ state_words state.old (read_by reader state.old s.now (λ b. nat_eq b value)).outcome.state }
+    ensures written { answer.new ≡ read_words answer.old (read_by reader state.old s.now (λ b. nat_eq b value)) }
 {
     if 2 < reader {
         return read_value_any(&s[..], reader, &mut *state, &mut *answer, value);

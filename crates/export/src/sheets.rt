@@ -6,7 +6,7 @@ ghost use Rattle.catalogue.specs.Block.{catalogue_in, words_of};
 ghost use Rattle.export.specs.Catalogue.{number_found, halves_found, entry_found};
 
 use catalogue::acts::{add, remove};
-use catalogue::lookup::{Found, Listed, entry, find, len, separators};
+use catalogue::lookup::{entry, find, len, separators};
 use word::format_flags::Format;
 
 // Writes an empty catalogue, whatever the words were.
@@ -28,9 +28,10 @@ pub extern "C" fn pawhetino_catalogue_add(
     ensures number { result ≡ add_number (catalogue_in words.old) school (record { lo = lo; hi = hi }) }
     ensures written { words.new ≡ words_of (added (catalogue_in words.old) school (record { lo = lo; hi = hi })) }
 {
-    let format = Format { lo, hi };
-    let answer = add(&mut *words, school, format);
-    answer.number()
+    match add(words, school, Format { lo, hi }) {
+        Ok(()) => 0,
+        Err(error) => error.number(),
+    }
 }
 
 // Removes a school: 0, or 27, and then nothing is changed.
@@ -39,8 +40,10 @@ pub extern "C" fn pawhetino_catalogue_remove(words: &mut [u64; 194], school: u16
     ensures number { result ≡ remove_number (catalogue_in words.old) school }
     ensures written { words.new ≡ words_of (removed (catalogue_in words.old) school) }
 {
-    let answer = remove(&mut *words, school);
-    answer.number()
+    match remove(words, school) {
+        Ok(()) => 0,
+        Err(error) => error.number(),
+    }
 }
 
 // The halves of a listed school's word: 0, or 27, and then nothing is written.
@@ -53,13 +56,12 @@ pub extern "C" fn pawhetino_catalogue_find(
     ensures number { result ≡ number_found (word_in (catalogue_in words.now) school) }
     ensures written { word.new ≡ halves_found word.old (word_in (catalogue_in words.now) school) }
 {
-    let found = find(words, school);
-    match found {
-        Found::Word(format) => {
+    match find(words, school) {
+        Some(format) => {
             *word = [format.lo, format.hi];
             0
         }
-        Found::Nowhere => 27,
+        None => 27, // not listed
     }
 }
 
@@ -69,14 +71,13 @@ pub extern "C" fn pawhetino_catalogue_entry(words: &[u64; 194], i: usize, row: &
     ensures number { result ≡ number_found (entry_in (catalogue_in words.now) i) }
     ensures written { row.new ≡ entry_found row.old (entry_in (catalogue_in words.now) i) }
 {
-    let listed = entry(words, i);
-    match listed {
-        Listed::At(sheet) => {
+    match entry(words, i) {
+        Some(sheet) => {
             let format = sheet.format;
             *row = [sheet.school, format.lo, format.hi];
             0
         }
-        Listed::Nowhere => 27,
+        None => 27, // past the last one
     }
 }
 

@@ -1,6 +1,6 @@
 // Takes to the end of a cell that is padded with runs of separators. A reader that passes a run at once, up to a digit, goes by numbers
 // there too: the run's end is all that is sought.
-ghost use Rattle.std.specs.Prelude.{◌≡◌, true, ◌<◌, ◌≤◌, length};
+ghost use Rattle.std.specs.Prelude.{◌≡◌, ◌<◌, ◌≤◌, length, IfSome};
 ghost use Rattle.export.specs.State.{state_words};
 ghost use Rattle.export.specs.Answer.{byte_words};
 ghost use Rattle.export.specs.Calls.{taken_all_by};
@@ -8,17 +8,16 @@ ghost use Rattle.export.specs.Code.FreshWords.{FreshWords};
 ghost use Rattle.export.specs.Code.GroupedCell.{SpacedCell};
 
 use crate::here::radix_of;
-use crate::next_all::{Grouped, count_past, next_all_any, not_grouped, put_end};
+use crate::next_all::{Grouped, count_past, next_all_any, put_end};
 use crate::over::has_consecutive;
 use reader::search::search_run;
 use word::digit::char_is_digit_by_range;
 use word::format_flags::Format;
 
-// A cell each of whose runs stands right before a digit, none before the first one.
-fn spaced_cell(s: &[u8], separator: u8, radix: u8) -> Grouped
+// A cell each of whose runs stands right before a digit, none before the first one. The loop jumps over a run, so it goes by an index.
+fn spaced_cell(s: &[u8], separator: u8, radix: u8) -> Option<Grouped>
     requires { 0 < separator }
-    ensures fits { result.passed ≤ length s.now }
-    ensures cell { result.is_so ≡ true → SpacedCell separator radix s.now result.count result.passed }
+    ensures { IfSome result (λ cell. (cell.passed ≤ length s.now) × SpacedCell separator radix s.now cell.count cell.passed) }
 {
     let mut at: usize = 0;
     let mut count: usize = 0;
@@ -32,26 +31,21 @@ fn spaced_cell(s: &[u8], separator: u8, radix: u8) -> Grouped
         }
         let early = count == 0;
         if early {
-            return not_grouped(false);
+            return None;
         }
         let end = search_run(s, separator, at).end;
         if s.len() <= end {
-            return not_grouped(false);
+            return None;
         }
         let c = s[end];
         if !char_is_digit_by_range(c, radix) {
-            return not_grouped(false);
+            return None;
         }
         count += 1;
         passed += end - at;
         at = end + 1;
     }
-    Grouped {
-        is_so: true,
-        has_run: true,
-        count,
-        passed,
-    }
+    Some(Grouped { count, passed })
 }
 
 // A cell with runs of separators, by numbers too where the reader passes them at once.
@@ -72,17 +66,9 @@ pub(crate) fn next_all_runs(
     if !has_consecutive(format, reader) {
         return next_all_any(&s[..], reader, &mut *state, &mut *answer);
     }
-    let cell = spaced_cell(s, format.digit_separator(), radix_of(format));
-    if !cell.is_so {
-        return next_all_any(&s[..], reader, &mut *state, &mut *answer);
-    }
     let size = s.len();
-    put_end(
-        reader,
-        size,
-        cell.count,
-        cell.passed,
-        &mut *state,
-        &mut *answer,
-    )
+    match spaced_cell(s, format.digit_separator(), radix_of(format)) {
+        Some(cell) => put_end(reader, size, cell, &mut *state, &mut *answer),
+        None => next_all_any(&s[..], reader, &mut *state, &mut *answer),
+    }
 }

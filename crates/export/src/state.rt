@@ -1,14 +1,13 @@
 // A state as a caller lends it: eight words of 64 bits, which are the format word's lower and upper half, the cursor, the counts of
 // integer, fraction and exponent, a word that is kept as it is, and the number of an edition.
-ghost use Rattle.std.specs.Prelude.{◌≡◌};
-ghost use Rattle.reader.specs.State.{named_reader};
+ghost use Rattle.std.specs.Prelude.{◌≡◌, ok_or};
 ghost use Rattle.export.specs.State.{state_in, words_of, state_words, reader_on, fresh_number, fresh_words};
 
-use reader::open::{Opened, open};
-use reader::state::{ExponentCount, FractionCount, IntegerCount, Named, State, reader_named};
+use reader::open::open;
+use reader::state::{ExponentCount, FractionCount, IntegerCount, Reader, State, UnknownReader};
 use word::format_flags::Format;
 
-// The state that the words hold. The last two are no part of it.
+// The state that the words hold. The last two are no part of it. The casts stay: std has no `From` between u64 and usize.
 pub(crate) fn state_in(w: &[u64; 8]) -> State
     ensures { result ≡ state_in w.now }
 {
@@ -51,13 +50,13 @@ pub(crate) fn put_state(w: &mut [u64; 8], state: State)
 }
 
 // The reader that a byte names, on a state that names an edition.
-pub(crate) fn reader_on(reader: u8, edition: u64) -> Named
-    ensures { named_reader result ≡ reader_on reader edition }
+pub(crate) fn reader_on(reader: u8, edition: u64) -> Result<Reader, UnknownReader>
+    ensures { result ≡ ok_or (reader_on reader edition) (record { 0 = reader }) }
 {
     if edition != 0 {
-        return Named::Unknown;
+        return Err(UnknownReader(reader));
     }
-    reader_named(reader)
+    Reader::try_from(reader)
 }
 
 // A fresh state of an edition, for a word that the full check accepts. Otherwise nothing is written.
@@ -71,10 +70,10 @@ pub extern "C" fn pawhetino_fresh(lo: u64, hi: u64, edition: u64, state: &mut [u
     }
     let opened = open(lo, hi);
     match opened {
-        Opened::Fresh(fresh) => {
+        Ok(fresh) => {
             put_words(&mut *state, fresh, 0, edition);
             0
         }
-        Opened::Refused(number) => number,
+        Err(error) => error.number(),
     }
 }

@@ -1,7 +1,7 @@
 -- DEMAND 1: every call answers a result, or one of document 01's numbers, told of its own fault, with nothing taken, nothing passed and
 -- the state that it was given. For every meaning of words, buffer, state and call; nothing is assumed.
+use Rattle.std.specs.Prelude.{Option, Some, None}
 use Rattle.std.proofs.Common.{◌≡◌, ℕ, zero, suc, ◌<◌, Bool, true, false, not, eqb, leb, ◌⊎◌, List, [], ◌∷◌, length, refl, ap, ◌∙◌, inl, inr, arith, eqb-true, leb-false}
-use mathlib.Core.Option.{Option, some, none}
 use Rattle.word.specs.declared.format_flags.Format.{Format}
 use Rattle.word.specs.Check.{line, first_failing}
 use Rattle.reader.specs.declared.rule.Flags.{Flags}
@@ -108,8 +108,8 @@ module _ (m : Reading) (s : List ℕ) (st : State) (r : Reader) where
   unfolding next_of
   take_turned = go peek_turned where
     success : (b : Option ℕ) → (peek_of m s st r).refusal ≡ 0 → (take_byte m r (peek_of m s st r) b).refusal ≡ 0
-    success none e = e
-    success (some b) e = refl
+    success None e = e
+    success (Some b) e = refl
 
     go : Turned (peek_of m s st r) → Turned (take_byte m r (peek_of m s st r) (peek_of m s st r).byte)
     go (inl e) = inl (success (peek_of m s st r).byte e)
@@ -126,7 +126,7 @@ module _ (m : Reading) (s : List ℕ) (st : State) (r : Reader) where
 -- THE FIVE CALLS
 module _ (m : Reader → Reading) (s : List ℕ) (st : State) where
   -- an answer that takes, passes, moves and shows nothing, by a number that is 0 or told of its fault
-  keeps : (call : Call) (a : Answered) → taken_in a ≡ 0 → passed_in a ≡ 0 → returned a ≡ st → shown_in a ≡ none → seen_in a ≡ none → part_in a ≡ []
+  keeps : (call : Call) (a : Answered) → taken_in a ≡ 0 → passed_in a ≡ 0 → returned a ≡ st → shown_in a ≡ None → seen_in a ≡ None → part_in a ≡ []
       → Judged (Fault m s st call) (number_in a) → ResultOrRefusal m s st call a
   keeps call a taken passed state shown seen part =
       or_else (λ fault. record { number = fault; taken = taken; passed = passed; state = state; shown = shown; seen = seen; part = part })
@@ -189,8 +189,8 @@ module _ (m : Reader → Reading) (s : List ℕ) (r : Reader) where
       go (call st).byte refl (all_clear n (call st).state (moves_clear m s st _ (call st).state (take_step m s st r) (m r).flags r clear))
     where
       go : (b : Option ℕ) → (call st).byte ≡ b → (repeated n call (call st).state).refusal ≡ 0 → (repeated (suc n) call st).refusal ≡ 0
-      go none e rest = rw e (take_clear st clear)
-      go (some b) e rest = rw e rest
+      go None e rest = rw e (take_clear st clear)
+      go (Some b) e rest = rw e rest
 
   refuses : (st : State) → eqb (refusal_of (m r) s st r) 0 ≡ false → repeated (length s) call st ≡ refused (refusal_of (m r) s st r) st
   unfolding next_of
@@ -218,7 +218,7 @@ module _ (m : Reading) (s : List ℕ) (st : State) (r : Reader) where
 -- the plain reader
 module _ (s : List ℕ) (at : ℕ) where
   abbrev past_end : PlainOutcome
-  past_end = record { refusal = 16; byte = none; taken = 0; passed = 0; cursor = at }
+  past_end = record { refusal = 16; byte = None; taken = 0; passed = 0; cursor = at }
 
   abbrev PlainTurned : PlainOutcome → Type 0
   PlainTurned o = (o.refusal ≡ 0) ⊎ ((length s < at) × (o ≡ past_end))
@@ -239,8 +239,8 @@ module _ (s : List ℕ) (at : ℕ) where
   unfolding plain_next_of
   plain_next_turned = go plain_peek_turned where
     success : (b : Option ℕ) → (plain_peek_of s at).refusal ≡ 0 → (plain_take_byte (plain_peek_of s at) b).refusal ≡ 0
-    success none e = e
-    success (some b) e = refl
+    success None e = e
+    success (Some b) e = refl
 
     go : PlainTurned (plain_peek_of s at) → PlainTurned (plain_take_byte (plain_peek_of s at) (plain_peek_of s at).byte)
     go (inl e) = inl (success (plain_peek_of s at).byte e)

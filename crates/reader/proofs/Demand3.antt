@@ -1,6 +1,6 @@
 -- DEMAND 3, for every sheet whose word the full check accepts. Nothing else is assumed.
+use Rattle.std.specs.Prelude.{Some}
 use Rattle.std.proofs.Common.{◌≡◌, ℕ, ◌<◌, Bool, true, false, not, ◌&&◌, List, sym, refl, arith}
-use mathlib.Core.Option.{some}
 use Rattle.word.specs.Word.{flag, digit_separator, mantissa_radix}
 use Rattle.word.specs.Check.{consecutive_alone, full_check}
 use Rattle.word.proofs.feature_format.Accepted.{separator_no_digit, none_alone}
@@ -20,7 +20,7 @@ use Rattle.reader.proofs.ByteTally.Refusals.{never_refused_by}
 
 module _ (sheet : Sheet) (accepted : full_check sheet.format ≡ 0) where
   -- a separator that stands beside another is no digit
-  a_separator_lem : (r : Reader) (b : ℕ) → is_separator (reading_on sheet r).separator b ≡ true → neighbour_of (reading_on sheet r) (some b) ≡ a_separator
+  a_separator_lem : (r : Reader) (b : ℕ) → is_separator (reading_on sheet r).separator b ≡ true → neighbour_of (reading_on sheet r) (Some b) ≡ a_separator
   unfolding neighbour_of reading_with syntax_on syntax_of
   a_separator_lem r b e =
       let no_digit : (reading_on sheet r).digit b ≡ false = rw (separator_is (digit_separator sheet.format) b e) (separator_no_digit sheet.format accepted (mantissa_radix sheet.format) (omega arith)) in

@@ -1,7 +1,7 @@
 -- The proved examples of document 01, A to N: one list and one theorem about the definitions, by computation. Separator `_`, radix 10,
 -- the integer reader, from a fresh state. Assumes nothing.
+use Rattle.std.specs.Prelude.{Option, Some, None}
 use Rattle.std.proofs.Common.{◌≡◌, ℕ, ◌+◌, ◌*◌, ◌^◌, List, [], ◌∷◌, map, refl}
-use mathlib.Core.Option.{Option, some, none}
 use Rattle.word.specs.declared.format_flags.Format.{Format}
 use Rattle.word.specs.Bits.{bit}
 use Rattle.word.specs.Word.{word, field, flag, radix_at}
@@ -63,13 +63,13 @@ format_with flags = record { lo = flags; hi = 10 * 2 ^ 40 + 95 }
 
 -- a peek that saw a byte, a take that took one, and a call that met the end; none of them refused
 abbrev pub saw : ℕ → ℕ → ℕ → ℕ → Shown
-saw byte cursor passed count = record { refusal = 0; byte = some byte; taken = 0; passed = passed; cursor = cursor; count = count }
+saw byte cursor passed count = record { refusal = 0; byte = Some byte; taken = 0; passed = passed; cursor = cursor; count = count }
 
 abbrev pub took : ℕ → ℕ → ℕ → ℕ → Shown
-took byte cursor passed count = record { refusal = 0; byte = some byte; taken = 1; passed = passed; cursor = cursor; count = count }
+took byte cursor passed count = record { refusal = 0; byte = Some byte; taken = 1; passed = passed; cursor = cursor; count = count }
 
 abbrev pub end : ℕ → ℕ → ℕ → Shown
-end cursor passed count = record { refusal = 0; byte = none; taken = 0; passed = passed; cursor = cursor; count = count }
+end cursor passed count = record { refusal = 0; byte = None; taken = 0; passed = passed; cursor = cursor; count = count }
 
 abbrev pub example : Label → ℕ → List ℕ → List Call → List Shown → Example
 example label flags text calls shown = record { label = label; flags = flags; text = text; calls = calls; shows = answers shown }

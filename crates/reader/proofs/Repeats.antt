@@ -1,7 +1,7 @@
 -- A call made again until it answers no byte: how it goes on, and the invariant of a loop over it: for takes to the end, zero
 -- skips, and their refusals. Assumes nothing.
+use Rattle.std.specs.Prelude.{Option, Some, None}
 use Rattle.std.proofs.Common.{◌≡◌, ℕ, zero, suc, ◌+◌, ◌-◌, ◌<◌, ◌≤◌, List, length, sym, refl, ap, ◌∙◌, add_assoc, zero-add, arith}
-use mathlib.Core.Option.{Option, some, none}
 use Rattle.reader.specs.declared.state.State.{State}
 use Rattle.reader.specs.Answer.{Outcome}
 use Rattle.reader.specs.Repeat.{plus, until_none, repeated}
@@ -13,12 +13,12 @@ plus-plus : (a b c d : ℕ) (o : Outcome) → plus a b (plus c d o) ≡ plus (a 
 plus-plus a b c d o = rw (add_assoc a c o.taken, add_assoc b d o.passed)
 
 module _ (call : State → Outcome) where
-  pub repeated-stops : (n : ℕ) (st : State) → (call st).byte ≡ none → repeated n call st ≡ call st
+  pub repeated-stops : (n : ℕ) (st : State) → (call st).byte ≡ None → repeated n call st ≡ call st
   unfolding until_none
   repeated-stops zero st e = refl
   repeated-stops (suc n) st e = rw e
 
-  pub repeated_goes_on : (n : ℕ) (st : State) (b : ℕ) → (call st).byte ≡ some b
+  pub repeated_goes_on : (n : ℕ) (st : State) (b : ℕ) → (call st).byte ≡ Some b
       → repeated (suc n) call st ≡ plus (call st).taken (call st).passed (repeated n call (call st).state)
   unfolding until_none
   repeated_goes_on n st b e = rw e
@@ -31,21 +31,21 @@ pub record TakesOne (s : List ℕ) (st : State) (o : Outcome) : Type 0 where
 
 -- Calls that take a byte of the buffer each come to an end: the last one answers no byte, however few may follow the first, if they
 -- are as many as there are bytes left.
-module _ (s : List ℕ) (call : State → Outcome) (takes : (st : State) (b : ℕ) → (call st).byte ≡ some b → TakesOne s st (call st)) where
-  ends_after : (n : ℕ) (st : State) → length s ≤ st.cursor + n → (repeated n call st).byte ≡ none
+module _ (s : List ℕ) (call : State → Outcome) (takes : (st : State) (b : ℕ) → (call st).byte ≡ Some b → TakesOne s st (call st)) where
+  ends_after : (n : ℕ) (st : State) → length s ≤ st.cursor + n → (repeated n call st).byte ≡ None
   unfolding until_none
   ends_after zero st few = go (call st).byte refl where
-    go : (o : Option ℕ) → (call st).byte ≡ o → (call st).byte ≡ none
-    go none e = e
-    go (some b) e = absurd (omega (arith, (takes st b e).inside))
+    go : (o : Option ℕ) → (call st).byte ≡ o → (call st).byte ≡ None
+    go None e = e
+    go (Some b) e = absurd (omega (arith, (takes st b e).inside))
   ends_after (suc n) st few = go (call st).byte refl (ends_after n (call st).state) where
     go :
-        (o : Option ℕ) → (call st).byte ≡ o → (length s ≤ (call st).state.cursor + n → (repeated n call (call st).state).byte ≡ none)
-        → (repeated (suc n) call st).byte ≡ none
-    go none e rest = rw e
-    go (some b) e rest = rw e (rest (omega (arith, (takes st b e).moves)))
+        (o : Option ℕ) → (call st).byte ≡ o → (length s ≤ (call st).state.cursor + n → (repeated n call (call st).state).byte ≡ None)
+        → (repeated (suc n) call st).byte ≡ None
+    go None e rest = rw e
+    go (Some b) e rest = rw e (rest (omega (arith, (takes st b e).moves)))
 
-  pub repeated_ends : (st : State) → (repeated (length s) call st).byte ≡ none
+  pub repeated_ends : (st : State) → (repeated (length s) call st).byte ≡ None
   repeated_ends st = ends_after (length s) st (omega arith)
 
 module _ (s : List ℕ) (call : State → Outcome) where
@@ -61,10 +61,10 @@ module _ (s : List ℕ) (call : State → Outcome) where
       record { same = rw untouched (sym (plus_zero (repeated (length s) call st))); moves = omega arith; fits = omega arith }
 
   module _ (st : State) (taken passed : ℕ) (here : State) (so_far : Repeating st taken passed here) where
-    pub repeating_ends : (call here).byte ≡ none → plus taken passed (call here) ≡ repeated (length s) call st
+    pub repeating_ends : (call here).byte ≡ None → plus taken passed (call here) ≡ repeated (length s) call st
     repeating_ends e = sym (so_far.same ∙ ap (plus taken passed) (repeated-stops call (length s - taken) here e))
 
-    pub repeating_goes_on : (b : ℕ) → (call here).byte ≡ some b → TakesOne s here (call here)
+    pub repeating_goes_on : (b : ℕ) → (call here).byte ≡ Some b → TakesOne s here (call here)
         → Repeating st (taken + 1) (passed + (call here).passed) (call here).state
     repeating_goes_on b e n =
         let steps : length s - taken ≡ suc (length s - (taken + 1)) = omega (arith, so_far.moves, n.inside) in

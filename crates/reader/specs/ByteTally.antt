@@ -1,6 +1,5 @@
 -- Demand 3, the byte tally: a single claim about a whole list of calls (documents 00 and 01, "Readers"). Assumes nothing.
-use Rattle.std.specs.Prelude.{◌≡◌, ℕ, ◌+◌, ◌<◌, ◌≤◌, true, false, List, [], ◌∷◌, ◌++◌, length, take, drop, replicate, ◌==◌, ◌≢◌}
-use Rattle.std.proofs.Math.Option.{some, none}
+use Rattle.std.specs.Prelude.{◌≡◌, ℕ, ◌+◌, ◌<◌, ◌≤◌, true, false, List, [], ◌∷◌, ◌++◌, length, take, drop, replicate, ◌==◌, ◌≢◌, Some, None}
 use Rattle.reader.specs.declared.state.Reader.{Reader}
 use Rattle.reader.specs.declared.state.State.{State}
 use Rattle.reader.specs.Reading.{Reading, may_pass}
@@ -43,12 +42,12 @@ passed_by_reads (o ∷ rest) = o.passed + passed_by_reads rest
 abbrev pub ZerosThenNone : List ReadOutcome → Type 0
 ZerosThenNone [] = ⊥
 ZerosThenNone (o ∷ []) =
-    (o.outcome.byte ≡ none) × (o.outcome.taken ≡ 0) × (o.outcome.refusal ≡ 0) × ((b : ℕ) → o.seen ≡ some b → is_zero b ≡ false)
+    (o.outcome.byte ≡ None) × (o.outcome.taken ≡ 0) × (o.outcome.refusal ≡ 0) × ((b : ℕ) → o.seen ≡ Some b → is_zero b ≡ false)
 ZerosThenNone (o ∷ next ∷ rest) =
-    (o.outcome.byte ≡ some 48) × (o.outcome.taken ≡ 1) × (o.outcome.refusal ≡ 0) × (o.seen ≡ some 48) × ZerosThenNone (next ∷ rest)
+    (o.outcome.byte ≡ Some 48) × (o.outcome.taken ≡ 1) × (o.outcome.refusal ≡ 0) × (o.seen ≡ Some 48) × ZerosThenNone (next ∷ rest)
 
 pub record SkipTold (o : SkipOutcome) (made : List ReadOutcome) : Type 0 where
-  pub zeros : o.zeros ≡ some (reads_that_took (outcomes_of made))
+  pub zeros : o.zeros ≡ Some (reads_that_took (outcomes_of made))
   pub taken : o.taken ≡ taken_by_reads (outcomes_of made)
   pub passed : o.passed ≡ passed_by_reads (outcomes_of made)
   pub reads : ZerosThenNone made

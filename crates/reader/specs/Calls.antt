@@ -1,6 +1,5 @@
 -- The calls of a reader (document 01, "Passing", "Readers"), over what the word says to it. Assumes nothing.
-use Rattle.std.specs.Prelude.{ℕ, ◌+◌, Bool, cond, not, ◌&&◌, List, [], ◌∷◌, length, ◌==◌, nat_le}
-use Rattle.std.proofs.Math.Option.{Option, some, none}
+use Rattle.std.specs.Prelude.{ℕ, ◌+◌, Bool, cond, not, ◌&&◌, List, [], ◌∷◌, length, ◌==◌, nat_le, Option, Some, None}
 use Rattle.word.specs.Check.{line, first_failing}
 use Rattle.reader.specs.declared.state.Reader.{Reader}
 use Rattle.reader.specs.declared.state.Reader.TheVariants.{Integer, Fraction, Exponent, Special}
@@ -43,7 +42,7 @@ refusal_of m s st r = refusal_with m.flags s st r
 
 -- a refused call takes nothing, passes nothing and returns the state it was given
 abbrev pub refused : ℕ → State → Outcome
-refused number st = record { refusal = number; byte = none; taken = 0; passed = 0; state = st }
+refused number st = record { refusal = number; byte = None; taken = 0; passed = 0; state = st }
 
 -- the outcome of a peek that passes k separators: the byte then under the cursor, or end
 abbrev pub seen_past : List ℕ → State → ℕ → Outcome
@@ -63,9 +62,9 @@ taken_from m r b st =
     cond (has_any_flag m.flags && m.digit b) (counted_by (moved_to st (st.cursor + 1)) r) (moved_to st (st.cursor + 1))
 
 abbrev pub take_byte : Reading → Reader → Outcome → Option ℕ → Outcome
-take_byte m r seen none = seen
-take_byte m r seen (some b) =
-    record { refusal = 0; byte = some b; taken = 1; passed = seen.passed; state = taken_from m r b seen.state }
+take_byte m r seen None = seen
+take_byte m r seen (Some b) =
+    record { refusal = 0; byte = Some b; taken = 1; passed = seen.passed; state = taken_from m r b seen.state }
 
 unfoldable pub next_of : Reading → List ℕ → State → Reader → Outcome
 next_of m s st r = take_byte m r (peek_of m s st r) (peek_of m s st r).byte
@@ -73,14 +72,14 @@ next_of m s st r = take_byte m r (peek_of m s st r) (peek_of m s st r).byte
 -- Conditional read: peek; a byte in the set is taken uncounted, else nothing is taken, yet the passing stays.
 abbrev pub read_taken : Outcome → ℕ → Outcome
 read_taken seen b =
-    record { refusal = 0; byte = some b; taken = 1; passed = seen.passed; state = moved_to seen.state (seen.state.cursor + 1) }
+    record { refusal = 0; byte = Some b; taken = 1; passed = seen.passed; state = moved_to seen.state (seen.state.cursor + 1) }
 
 abbrev pub read_declined : Outcome → Outcome
-read_declined seen = record { refusal = 0; byte = none; taken = 0; passed = seen.passed; state = seen.state }
+read_declined seen = record { refusal = 0; byte = None; taken = 0; passed = seen.passed; state = seen.state }
 
 abbrev pub read_byte_if : (ℕ → Bool) → Outcome → Option ℕ → Outcome
-read_byte_if wanted seen none = seen
-read_byte_if wanted seen (some b) = cond (wanted b) (read_taken seen b) (read_declined seen)
+read_byte_if wanted seen None = seen
+read_byte_if wanted seen (Some b) = cond (wanted b) (read_taken seen b) (read_declined seen)
 
 unfoldable pub read_if_of : Reading → List ℕ → State → Reader → (ℕ → Bool) → Outcome
 read_if_of m s st r wanted = read_byte_if wanted (peek_of m s st r) (peek_of m s st r).byte
@@ -91,7 +90,7 @@ abbrev pub read_of : Reading → List ℕ → State → Reader → (ℕ → Bool
 read_of m s st r wanted = record { outcome = read_if_of m s st r wanted; seen = (peek_of m s st r).byte }
 
 abbrev pub refused_read : ℕ → State → ReadOutcome
-refused_read number st = record { outcome = refused number st; seen = none }
+refused_read number st = record { outcome = refused number st; seen = None }
 
 -- Take to the end: takes until one answers no byte. There are at most as many takes with a byte as there are bytes.
 unfoldable pub next_all_of : Reading → List ℕ → State → Reader → Outcome
@@ -115,5 +114,5 @@ shown_count m st r = cond (has_any_flag m.flags) (count_of st r) (own_count r (u
 unfoldable pub current_count_of : Reading → List ℕ → State → Reader → CountOutcome
 current_count_of m s st r =
     cond (place_refusal s st == 0)
-    (record { refusal = 0; count = some (shown_count m st r) })
-    (record { refusal = place_refusal s st; count = none })
+    (record { refusal = 0; count = Some (shown_count m st r) })
+    (record { refusal = place_refusal s st; count = None })

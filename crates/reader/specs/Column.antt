@@ -1,10 +1,9 @@
 -- Take to the end over a column of cells in one call: the sums over its cells of the one-cell call. Assumes nothing.
-use Rattle.std.specs.Prelude.{ℕ, ◌+◌, ◌-◌, min, max, cond, List, [], ◌∷◌, length, take, drop, ◌==◌}
+use Rattle.std.specs.Prelude.{ℕ, ◌+◌, ◌-◌, min, max, cond, List, [], ◌∷◌, length, take, drop, ◌==◌, Result, Ok, Err}
 use Rattle.word.specs.declared.format_flags.Format.{Format}
 use Rattle.reader.specs.declared.state.Reader.{Reader}
+use Rattle.reader.specs.declared.state.Refusal.{Refusal}
 use Rattle.reader.specs.declared.column.Totals.{Totals}
-use Rattle.reader.specs.declared.column.Column.{Column}
-use Rattle.reader.specs.declared.column.Column.TheVariants as column
 use Rattle.reader.specs.Reading.{Reading}
 use Rattle.reader.specs.State.{fresh_of, count_of}
 use Rattle.reader.specs.Answer.{number_of, Outcome}
@@ -49,6 +48,6 @@ column_of m f r s ends =
     (record { refusal = refusal_with m.flags s (fresh_of f) r; totals = no_totals })
 
 -- what the cases of the answer say
-abbrev pub column_outcome_of : Column → ColumnOutcome
-column_outcome_of (column.Read t) = record { refusal = 0; totals = t }
-column_outcome_of (column.Refused e) = record { refusal = number_of e; totals = no_totals }
+abbrev pub column_outcome_of : Result Totals Refusal → ColumnOutcome
+column_outcome_of (Ok t) = record { refusal = 0; totals = t }
+column_outcome_of (Err e) = record { refusal = number_of e; totals = no_totals }

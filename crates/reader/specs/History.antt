@@ -1,8 +1,7 @@
 -- The history of a list of calls (document 01, "Readers"): the calls so far with the answers that the contracts promise, and what is
 -- joined and counted from them. A zero skip "stands as those reads", so they stand beside its answer; the byte tally holds the two
 -- together. Assumes nothing.
-use Rattle.std.specs.Prelude.{ℕ, ◌+◌, Bool, cond, ◌&&◌, List, [], ◌∷◌, ◌++◌, length, replicate, ◌==◌}
-use Rattle.std.proofs.Math.Option.{Option, some, none}
+use Rattle.std.specs.Prelude.{ℕ, ◌+◌, Bool, cond, ◌&&◌, List, [], ◌∷◌, ◌++◌, length, replicate, ◌==◌, Option, Some, None}
 use Rattle.reader.specs.declared.state.Reader.{Reader}
 use Rattle.reader.specs.declared.state.State.{State}
 use Rattle.reader.specs.Reading.{Reading, has_any_flag}
@@ -93,11 +92,11 @@ shown_in (block_answered r o part) = o.block
 
 -- the byte that a read saw, also where it is declined; no other call tells one beside what it shows
 abbrev pub seen_in : Answered → Option ℕ
-seen_in (peek_answered r o) = none
-seen_in (take_answered r o) = none
+seen_in (peek_answered r o) = None
+seen_in (take_answered r o) = None
 seen_in (read_answered r o) = o.seen
-seen_in (skip_answered r o reads) = none
-seen_in (block_answered r o part) = none
+seen_in (skip_answered r o reads) = None
+seen_in (block_answered r o part) = None
 
 -- the part that a block take returns; the others return none
 abbrev pub part_in : Answered → List ℕ
@@ -142,8 +141,8 @@ pub record Step : Type 0 where
 
 -- the byte of a take or a read
 abbrev pub byte_taken : Option ℕ → List ℕ
-byte_taken none = []
-byte_taken (some b) = b ∷ []
+byte_taken None = []
+byte_taken (Some b) = b ∷ []
 
 abbrev pub step_of : Reader → Kind → Outcome → Step
 step_of r kind o = record { reader = r; kind = kind; passed = o.passed; bytes = byte_taken o.byte }
@@ -179,8 +178,8 @@ abbrev pub digits_taken : Reading → List ℕ → ℕ
 digits_taken m bytes = cond (has_any_flag m.flags) (digits_in m.digit bytes) 0
 
 abbrev pub zeros_told : Option ℕ → ℕ
-zeros_told none = 0
-zeros_told (some n) = n
+zeros_told None = 0
+zeros_told (Some n) = n
 
 abbrev pub counts_for : Reader → Reader → Bool
 counts_for r by = is_counted r && reader_number r == reader_number by

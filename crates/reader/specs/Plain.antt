@@ -1,8 +1,6 @@
 -- The plain reader (document 01, "Without separators"): it never passes, and its state is a cursor alone. Assumes nothing.
-use Rattle.std.specs.Prelude.{ℕ, ◌+◌, cond, List, length, nat_le}
-use Rattle.std.proofs.Math.Option.{Option, some, none}
-use Rattle.reader.specs.declared.noskip.Seen.{Seen}
-use Rattle.reader.specs.declared.noskip.Seen.TheVariants as seen
+use Rattle.std.specs.Prelude.{ℕ, ◌+◌, cond, List, length, nat_le, Option, Some, None, Result, Ok, Err}
+use Rattle.reader.specs.declared.noskip.CursorPastEnd.{CursorPastEnd}
 use Rattle.reader.specs.declared.noskip.Answer.{Answer}
 use Rattle.reader.specs.Place.{byte_at}
 
@@ -15,29 +13,32 @@ pub record PlainOutcome : Type 0 where
   pub cursor : ℕ
 
 -- 16 is its one refusal
-abbrev pub plain_number : Seen → ℕ
-plain_number (seen.Byte b) = 0
-plain_number seen.End = 0
-plain_number seen.CursorPastEnd = 16
+abbrev pub plain_number : Result (Option ℕ) CursorPastEnd → ℕ
+plain_number (Ok seen) = 0
+plain_number (Err e) = 16
 
-abbrev pub plain_byte : Seen → Option ℕ
-plain_byte (seen.Byte b) = some b
-plain_byte seen.End = none
-plain_byte seen.CursorPastEnd = none
+abbrev pub plain_byte : Result (Option ℕ) CursorPastEnd → Option ℕ
+plain_byte (Ok seen) = seen
+plain_byte (Err e) = None
 
 abbrev pub plain_outcome_of : Answer → PlainOutcome
 plain_outcome_of a =
-    record { refusal = plain_number a.seen; byte = plain_byte a.seen; taken = a.taken; passed = a.passed; cursor = a.cursor.cursor }
+    record { refusal = plain_number a.report.found; byte = plain_byte a.report.found; taken = a.report.taken; passed = a.report.passed; cursor = a.cursor.cursor }
 
 unfoldable pub plain_peek_of : List ℕ → ℕ → PlainOutcome
 plain_peek_of s at =
     cond (nat_le at (length s))
     (record { refusal = 0; byte = byte_at s at; taken = 0; passed = 0; cursor = at })
-    (record { refusal = 16; byte = none; taken = 0; passed = 0; cursor = at })
+    (record { refusal = 16; byte = None; taken = 0; passed = 0; cursor = at })
+
+-- how many bytes a take takes where a peek sees this
+abbrev pub taken_of : Option ℕ → ℕ
+taken_of None = 0
+taken_of (Some b) = 1
 
 abbrev pub plain_take_byte : PlainOutcome → Option ℕ → PlainOutcome
-plain_take_byte seen none = seen
-plain_take_byte seen (some b) = record { refusal = 0; byte = some b; taken = 1; passed = 0; cursor = seen.cursor + 1 }
+plain_take_byte seen None = seen
+plain_take_byte seen (Some b) = record { refusal = 0; byte = Some b; taken = 1; passed = 0; cursor = seen.cursor + 1 }
 
 unfoldable pub plain_next_of : List ℕ → ℕ → PlainOutcome
 plain_next_of s at = plain_take_byte (plain_peek_of s at) (plain_peek_of s at).byte

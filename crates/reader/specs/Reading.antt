@@ -1,6 +1,5 @@
 -- What a format word says to one reader, and how many separators the reader passes at a place. Assumes nothing.
-use Rattle.std.specs.Prelude.{ℕ, ◌+◌, Bool, true, false, cond, not, ◌&&◌, ◌||◌, List, drop}
-use Rattle.std.proofs.Math.Option.{Option, some, none}
+use Rattle.std.specs.Prelude.{ℕ, ◌+◌, Bool, true, false, cond, not, ◌&&◌, ◌||◌, List, drop, Option, Some, None}
 use Rattle.word.specs.declared.format_flags.Format.{Format}
 use Rattle.word.specs.Word.{flag, digit_separator, mantissa_radix}
 use Rattle.word.specs.Digit.{is_digit}
@@ -9,6 +8,8 @@ use Rattle.reader.specs.declared.state.Reader.TheVariants.{Integer, Fraction, Ex
 use Rattle.reader.specs.declared.state.State.{State}
 use Rattle.reader.specs.declared.rule.Flags.{Flags}
 use Rattle.reader.specs.declared.rule.Neighbour.{Neighbour}
+use Rattle.std.specs.Int.NonZero.{non_zero_u8_get}
+use Rattle.reader.specs.declared.passing.Separated.{Separated}
 use Rattle.reader.specs.declared.passing.Syntax.{Syntax}
 use Rattle.reader.specs.Rule.{rule_of}
 use Rattle.reader.specs.State.{Sheet, sheet_of}
@@ -40,6 +41,10 @@ unfoldable pub reading_with : Syntax → Reading
 reading_with x =
     record { separator = x.separator; flags = x.flags; rule = rule_of x.flags; digit = λ b. is_digit b x.radix }
 
+-- what a word with a separator says to a reader
+abbrev pub syntax_in : Separated → Syntax
+syntax_in x = record { separator = non_zero_u8_get x.separator; radix = x.radix; flags = x.flags }
+
 -- the reading of document 01
 abbrev pub reading_of : Format → Reader → Reading
 reading_of f r = reading_with (syntax_of f r)
@@ -66,8 +71,8 @@ is_consecutive_alone f = f.consecutive && not f.internal && not f.leading && not
 
 -- what a rule asks of a neighbour; beyond either end there is no byte, and D and S are false
 unfoldable pub neighbour_of : Reading → Option ℕ → Neighbour
-neighbour_of m none = record { exists = false; digit = false; separator = false }
-neighbour_of m (some b) = record { exists = true; digit = m.digit b; separator = is_separator m.separator b }
+neighbour_of m None = record { exists = false; digit = false; separator = false }
+neighbour_of m (Some b) = record { exists = true; digit = m.digit b; separator = is_separator m.separator b }
 
 abbrev pub previous : Reading → List ℕ → ℕ → Neighbour
 previous m s place = neighbour_of m (nearest m.separator m.flags.consecutive (before s place))
@@ -77,8 +82,8 @@ following m s place = neighbour_of m (nearest m.separator m.flags.consecutive (a
 
 -- The reader may pass at this place: the buffer has a separator there, and the rule holds.
 abbrev pub passes_byte : Reading → List ℕ → Bool → ℕ → Option ℕ → Bool
-passes_byte m s is_first place none = false
-passes_byte m s is_first place (some b) = is_separator m.separator b && m.rule is_first (previous m s place) (following m s place)
+passes_byte m s is_first place None = false
+passes_byte m s is_first place (Some b) = is_separator m.separator b && m.rule is_first (previous m s place) (following m s place)
 
 unfoldable pub may_pass : Reading → List ℕ → Bool → ℕ → Bool
 may_pass m s is_first place = passes_byte m s is_first place (byte_at s place)

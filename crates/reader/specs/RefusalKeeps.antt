@@ -1,7 +1,6 @@
 -- Demand 1 (document 00): "it receives a result or one of document 01's numbers; a refused call takes nothing, passes nothing and
 -- returns the state it was given." Of each call of a list, and of those that stand in none. Assumes nothing.
-use Rattle.std.specs.Prelude.{◌≡◌, ℕ, ◌<◌, true, false, ◌⊎◌, List, [], length}
-use Rattle.std.proofs.Math.Option.{none}
+use Rattle.std.specs.Prelude.{◌≡◌, ℕ, ◌<◌, true, false, ◌⊎◌, List, [], length, None}
 use Rattle.reader.specs.declared.rule.Flags.{Flags}
 use Rattle.reader.specs.declared.state.Reader.{Reader}
 use Rattle.reader.specs.declared.state.Reader.TheVariants.{Integer, Fraction, Exponent, Special}
@@ -46,8 +45,8 @@ pub record RefusalKeeps (m : Reader → Reading) (s : List ℕ) (given : State) 
   pub taken : taken_in a ≡ 0
   pub passed : passed_in a ≡ 0
   pub state : returned a ≡ given
-  pub shown : shown_in a ≡ none
-  pub seen : seen_in a ≡ none
+  pub shown : shown_in a ≡ None
+  pub seen : seen_in a ≡ None
   pub part : part_in a ≡ []
 
 abbrev pub ResultOrRefusal : (Reader → Reading) → List ℕ → State → Call → Answered → Type 0
@@ -58,7 +57,7 @@ ResultOrRefusal m s given call a = (number_in a ≡ 0) ⊎ RefusalKeeps m s give
 -- `current_count` tests the place alone, and returns no state.
 pub record CountRefusalKeeps (s : List ℕ) (given : State) (o : CountOutcome) : Type 0 where
   pub number : PlaceFault s given o.refusal
-  pub count : o.count ≡ none
+  pub count : o.count ≡ None
 
 -- "16 is its one refusal": the plain reader, whose state is a cursor
 pub record PlainRefusalKeeps (s : List ℕ) (given : ℕ) (o : PlainOutcome) : Type 0 where
@@ -66,7 +65,7 @@ pub record PlainRefusalKeeps (s : List ℕ) (given : ℕ) (o : PlainOutcome) : T
   pub taken : o.taken ≡ 0
   pub passed : o.passed ≡ 0
   pub cursor : o.cursor ≡ given
-  pub byte : o.byte ≡ none
+  pub byte : o.byte ≡ None
 
 -- The cells of a column begin from fresh states, so that only the reader's own number is left.
 pub record ColumnRefusalKeeps (f : Flags) (r : Reader) (o : ColumnOutcome) : Type 0 where

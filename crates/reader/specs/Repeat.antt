@@ -1,6 +1,5 @@
 -- A call made again and again, and several calls told as one. Assumes nothing.
-use Rattle.std.specs.Prelude.{ℕ, zero, suc, ◌+◌, List, [], ◌∷◌}
-use Rattle.std.proofs.Math.Option.{Option, some, none}
+use Rattle.std.specs.Prelude.{ℕ, zero, suc, ◌+◌, List, [], ◌∷◌, Option, Some, None}
 use Rattle.reader.specs.declared.state.State.{State}
 use Rattle.reader.specs.Answer.{Outcome}
 
@@ -16,8 +15,8 @@ summed o (next ∷ rest) = plus o.taken o.passed (summed next rest)
 
 -- what follows an answer with a byte; nothing follows one without
 abbrev pub if_byte : Option ℕ → List Outcome → List Outcome
-if_byte none following = []
-if_byte (some b) following = following
+if_byte None following = []
+if_byte (Some b) following = following
 
 -- The calls after one with the outcome o, each from the state that the one before it returned, until one answers no byte; at most n.
 unfoldable pub until_none : ℕ → (State → Outcome) → Outcome → List Outcome

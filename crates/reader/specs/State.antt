@@ -1,11 +1,8 @@
 -- The state of a cursor (document 01, "Passing"): the word, the cursor and the three digit counts. Assumes nothing.
-use Rattle.std.specs.Prelude.{ℕ, ◌+◌, Bool, true, false, cond, ◌==◌}
-use Rattle.std.proofs.Math.Option.{Option, some, none}
+use Rattle.std.specs.Prelude.{ℕ, ◌+◌, Bool, true, false, cond, ◌==◌, Option, Some, None}
 use Rattle.word.specs.declared.format_flags.Format.{Format}
 use Rattle.reader.specs.declared.state.Reader.{Reader}
 use Rattle.reader.specs.declared.state.Reader.TheVariants.{Integer, Fraction, Exponent, Special}
-use Rattle.reader.specs.declared.state.Named.{Named}
-use Rattle.reader.specs.declared.state.Named.TheVariants as named
 use Rattle.reader.specs.declared.state.State.{State}
 
 -- What of a state says how it is read, by every reader. No call changes it.
@@ -34,14 +31,10 @@ reader_number Fraction = 1
 reader_number Exponent = 2
 reader_number Special = 3
 
--- the reader that a number names, and what the cases of `Named` say of it
+-- the reader that a number names
 unfoldable pub reader_named : ℕ → Option Reader
 reader_named n =
-    cond (n == 0) (some Integer) (cond (n == 1) (some Fraction) (cond (n == 2) (some Exponent) (cond (n == 3) (some Special) none)))
-
-abbrev pub named_reader : Named → Option Reader
-named_reader (named.Known r) = some r
-named_reader named.Unknown = none
+    cond (n == 0) (Some Integer) (cond (n == 1) (Some Fraction) (cond (n == 2) (Some Exponent) (cond (n == 3) (Some Special) None)))
 
 -- the reader's own count; the special reader counts nothing
 unfoldable pub count_of : State → Reader → ℕ

@@ -1,6 +1,5 @@
 -- The zero skip (document 01, "Readers"): reads of `0`, each raising the count, until one fails. Assumes nothing.
-use Rattle.std.specs.Prelude.{ℕ, Bool, cond, List, [], ◌∷◌, length, ◌==◌}
-use Rattle.std.proofs.Math.Option.{Option, some, none}
+use Rattle.std.specs.Prelude.{ℕ, Bool, cond, List, [], ◌∷◌, length, ◌==◌, Option, Some, None}
 use Rattle.word.specs.Check.{first_failing}
 use Rattle.reader.specs.declared.state.Reader.{Reader}
 use Rattle.reader.specs.declared.rule.Flags.{Flags}
@@ -21,8 +20,8 @@ is_zero b = b == 48
 
 -- a read that took a byte raises the reader's count, also where the reader has no flag
 abbrev pub raised : Reader → Outcome → Option ℕ → Outcome
-raised r o none = o
-raised r o (some b) =
+raised r o None = o
+raised r o (Some b) =
     record { refusal = o.refusal; byte = o.byte; taken = o.taken; passed = o.passed; state = counted_by o.state r }
 
 -- one read of a zero skip; it fails where it is declined, and at the end
@@ -35,10 +34,10 @@ zero_reads_of m s st r = zero_read_of m s r st ∷ until_none (length s) (zero_r
 
 -- The answer is how many zeros were taken; its taken and passed are the sums of its reads', the failed one included.
 abbrev pub skipped : Outcome → SkipOutcome
-skipped o = record { refusal = 0; zeros = some o.taken; taken = o.taken; passed = o.passed; state = o.state }
+skipped o = record { refusal = 0; zeros = Some o.taken; taken = o.taken; passed = o.passed; state = o.state }
 
 abbrev pub refused_skip : ℕ → State → SkipOutcome
-refused_skip number st = record { refusal = number; zeros = none; taken = 0; passed = 0; state = st }
+refused_skip number st = record { refusal = number; zeros = None; taken = 0; passed = 0; state = st }
 
 unfoldable pub skip_zeros_of : Reading → List ℕ → State → Reader → SkipOutcome
 skip_zeros_of m s st r =

@@ -1,13 +1,12 @@
 // `Bytes`: the caller's slice, kept beside the cursor's state. After lexical-util's Bytes. Each function takes the struct apart and
 // calls one on the slice and the state, which has the work; so most need no proof file.
 ghost use Rattle.std.specs.Prelude.{◌≡◌};
-ghost use Rattle.reader.specs.Answer.{outcome_of, peek_outcome_of, read_outcome_of, skip_outcome_of, block_outcome_of, count_outcome_of};
+ghost use Rattle.reader.specs.Answer.{outcome_of, read_outcome_of, skip_outcome_of, block_outcome_of, count_outcome_of};
 ghost use Rattle.reader.specs.Block.{BlockPart};
 ghost use Rattle.reader.specs.Bytes.{bytes_over, Rest, count_bytes, peek_bytes, next_bytes, next_all_bytes, read_bytes, skip_bytes, take_n_bytes, whole_outcome};
 
-use crate::iterator::{ReadReport, SkipReport};
-use crate::skip::{BlockReport, Count, PeekReport, Report};
-use crate::state::{Reader, State};
+use crate::answer::{Block, Read, Report, Seen, Zeros};
+use crate::state::{Reader, Refusal, State};
 use word::byte_set::ByteSet;
 use word::format_flags::Format;
 
@@ -58,7 +57,7 @@ impl<'a> Bytes<'a> {
         rest(self.slc, self.state)
     }
 
-    pub fn current_count(self, reader: Reader) -> Count
+    pub fn current_count(self, reader: Reader) -> Result<usize, Refusal>
         ensures { count_outcome_of result ≡ count_bytes self.entry reader }
     {
         crate::skip::current_count(self.slc, self.state, reader)
@@ -71,15 +70,15 @@ impl<'a> Bytes<'a> {
         crate::skip::take_n_part(self.slc, self.state, reader, n)
     }
 
-    pub fn peek(&mut self, reader: Reader) -> PeekReport
-        ensures { (peek_outcome_of (record { report = result; state = self.new.state }) ≡ peek_bytes self.old reader) × (self.new.slc ≡ self.old.slc) }
+    pub fn peek(&mut self, reader: Reader) -> Report<Seen>
+        ensures { (outcome_of (record { report = result; state = self.new.state }) ≡ peek_bytes self.old reader) × (self.new.slc ≡ self.old.slc) }
     {
         let answer = crate::skip::peek(self.slc, self.state, reader);
         self.state = answer.state;
         answer.report
     }
 
-    pub fn next(&mut self, reader: Reader) -> Report
+    pub fn next(&mut self, reader: Reader) -> Report<Seen>
         ensures { (outcome_of (record { report = result; state = self.new.state }) ≡ next_bytes self.old reader) × (self.new.slc ≡ self.old.slc) }
     {
         let answer = crate::skip::next(self.slc, self.state, reader);
@@ -88,7 +87,7 @@ impl<'a> Bytes<'a> {
     }
 
     // Takes to the end of the slice.
-    pub fn next_all(&mut self, reader: Reader) -> Report
+    pub fn next_all(&mut self, reader: Reader) -> Report<Seen>
         ensures { (outcome_of (record { report = result; state = self.new.state }) ≡ next_all_bytes self.old reader) × (self.new.slc ≡ self.old.slc) }
     {
         let answer = crate::skip::next_all(self.slc, self.state, reader);
@@ -96,7 +95,7 @@ impl<'a> Bytes<'a> {
         answer.report
     }
 
-    pub fn skip_zeros(&mut self, reader: Reader) -> SkipReport
+    pub fn skip_zeros(&mut self, reader: Reader) -> Report<Zeros>
         ensures { (skip_outcome_of (record { report = result; state = self.new.state }) ≡ skip_bytes self.old reader) × (self.new.slc ≡ self.old.slc) }
     {
         let answer = crate::iterator::skip_zeros(self.slc, self.state, reader);
@@ -104,7 +103,7 @@ impl<'a> Bytes<'a> {
         answer.report
     }
 
-    pub fn read_if(&mut self, reader: Reader, wanted: ByteSet) -> ReadReport
+    pub fn read_if(&mut self, reader: Reader, wanted: ByteSet) -> Report<Result<Read, Refusal>>
         ensures { (read_outcome_of (record { report = result; state = self.new.state }) ≡ read_bytes self.old reader wanted) × (self.new.slc ≡ self.old.slc) }
     {
         let answer = crate::iterator::read_if(self.slc, self.state, reader, wanted);
@@ -112,7 +111,7 @@ impl<'a> Bytes<'a> {
         answer.report
     }
 
-    pub fn take_n(&mut self, reader: Reader, n: usize) -> BlockReport
+    pub fn take_n(&mut self, reader: Reader, n: usize) -> Report<Block>
         ensures { (block_outcome_of (record { report = result; state = self.new.state }) ≡ take_n_bytes self.old reader n) × (self.new.slc ≡ self.old.slc) }
     {
         let answer = crate::skip::take_n(self.slc, self.state, reader, n);
@@ -122,7 +121,7 @@ impl<'a> Bytes<'a> {
 }
 
 // Takes to the end of a slice, from its start: for a caller with plain parameters.
-pub fn take_to_end(s: &[u8], format: Format, reader: Reader) -> Report
+pub fn take_to_end(s: &[u8], format: Format, reader: Reader) -> Report<Seen>
     ensures { outcome_of (record { report = result; state = (whole_outcome s.now format reader).state }) ≡ whole_outcome s.now format reader }
 {
     let mut bytes = Bytes::new(s, format);

@@ -7,31 +7,24 @@ ghost use Rattle.reader.specs.Calls.{refusal_with, own_count};
 ghost use Rattle.reader.specs.Column.{part_from, add_totals, cell_totals, column_from, column_of, column_outcome_of};
 ghost use Rattle.reader.specs.Code.OrdinaryCells.{Countable, Ordinary, Stretch, fills_of, is_served, is_quick, passing as passing_of, doubles as doubles_of, before_digits, ordinary_totals};
 
-use crate::min::min_usize;
 use crate::pairs::{Pairs, count_pairs};
 use crate::passing::{Syntax, syntax_of};
-use crate::rule::{Neighbour, later_rule, passes_before};
+use crate::rule::{Neighbour, later_rule};
 use crate::skip::take_run;
-use crate::state::{Admission, Reader, Refusal, State, admit, counts_digits};
+use crate::state::{Reader, Refusal, State, admit, counts_digits};
 use word::digit::char_is_digit_by_table;
 use word::format_flags::Format;
 
 // What is summed over the cells.
-#[derive(Clone, Copy)]
+#[derive(Clone, Copy, Debug, PartialEq, Eq)]
 pub struct Totals {
     pub taken: usize,
     pub passed: usize,
     pub digits: usize,
 }
 
-#[derive(Clone, Copy)]
-pub enum Column {
-    Read(Totals),
-    Refused(Refusal),
-}
-
-// The cell that a walk over a column has come to, and where it begins.
-#[derive(Clone, Copy)]
+// How many cells a walk has gone over, and where the next one begins.
+#[derive(Clone, Copy, Debug, PartialEq, Eq)]
 pub struct Reached {
     pub cell: usize,
     pub at: usize,
@@ -41,12 +34,10 @@ pub struct Reached {
 fn bound_of(size: usize, start: usize, end: usize) -> usize
     ensures { result ≡ min (max end start) size }
 {
-    if end < start {
-        return min_usize(start, size);
-    }
-    min_usize(end, size)
+    end.max(start).min(size)
 }
 
+// No `+`: that the sums fit is asked here, and `Add` would want a member of its own for it.
 fn add_totals(a: Totals, b: Totals) -> Totals
     requires { (a.taken + b.taken < 2 ^ 64) × (a.passed + b.passed < 2 ^ 64) × (a.digits + b.digits < 2 ^ 64) }
     ensures { result ≡ add_totals a b }
@@ -63,7 +54,6 @@ fn passing_pairs(syntax: Syntax) -> Pairs
     ensures { result ≡ passing_of syntax }
 {
     let later = later_rule(syntax.flags);
-    let word = later.word;
     let digit = Neighbour {
         exists: true,
         digit: true,
@@ -83,9 +73,9 @@ fn passing_pairs(syntax: Syntax) -> Pairs
         separator: syntax.separator,
         radix: syntax.radix,
         any: false,
-        digits: passes_before(word, digit),
-        separators: passes_before(word, separator),
-        others: passes_before(word, other),
+        digits: later.passes_before(digit),
+        separators: later.passes_before(separator),
+        others: later.passes_before(other),
     }
 }
 
@@ -166,33 +156,33 @@ fn is_ordinary(s: &[u8], syntax: Syntax, start: usize, end: usize) -> bool
     char_is_digit_by_table(first_byte, syntax.radix) & (last_byte != syntax.separator)
 }
 
-// How far ordinary cells go from a cell on.
+// How far ordinary cells go from the first of these on.
 fn past_ordinary(
     s: &[u8],
     ends: &[usize],
     syntax: Syntax,
     reader: Reader,
     quick: bool,
-    cell: usize,
     start: usize,
 ) -> Reached
-    requires { (quick ≡ true → Countable syntax reader s.now) × (cell ≤ length ends.now) × (start ≤ length s.now) }
-    ensures { Stretch syntax reader s.now ends.now cell start result }
+    requires { (quick ≡ true → Countable syntax reader s.now) × (start ≤ length s.now) }
+    ensures { Stretch syntax reader s.now ends.now 0 start result }
 {
-    let mut k = cell;
+    if !quick {
+        return Reached { cell: 0, at: start };
+    }
     let mut at = start;
-    while k < ends.len() {
-        let end = bound_of(s.len(), at, ends[k]);
-        if !quick {
-            return Reached { cell: k, at };
-        }
+    for (cell, &given) in ends.iter().enumerate() {
+        let end = bound_of(s.len(), at, given);
         if !is_ordinary(s, syntax, at, end) {
-            return Reached { cell: k, at };
+            return Reached { cell, at };
         }
-        k += 1;
         at = end;
     }
-    Reached { cell: k, at }
+    Reached {
+        cell: ends.len(),
+        at,
+    }
 }
 
 // What a stretch of ordinary cells adds.
@@ -269,22 +259,22 @@ fn column_totals(
         passed: 0,
         digits: 0,
     };
-    let mut cell: usize = 0;
+    let mut left = ends;
     let mut at: usize = 0;
-    while cell < ends.len() {
-        let to = past_ordinary(s, ends, syntax, reader, quick, cell, at);
-        if cell < to.cell {
+    // No `for`: a stretch goes over several cells at a time.
+    while let Some((&told, behind)) = left.split_first() {
+        let to = past_ordinary(s, left, syntax, reader, quick, at);
+        if to.cell != 0 {
             let end = to.at;
-            let stretch = stretch_totals(&s[at..end], syntax);
-            sums = add_totals(sums, stretch);
-            cell = to.cell;
+            sums = add_totals(sums, stretch_totals(&s[at..end], syntax));
+            left = &left[to.cell..];
             at = end;
             continue;
         }
-        let end = bound_of(s.len(), at, ends[cell]);
+        let end = bound_of(s.len(), at, told);
         let one = cell_totals(&s[at..end], format, syntax, reader);
         sums = add_totals(sums, one);
-        cell += 1;
+        left = behind;
         at = end;
     }
     sums
@@ -292,21 +282,15 @@ fn column_totals(
 
 // Takes every cell of a column to its end, each from a fresh state: the cells lie one after the other in the buffer, and `ends` are the
 // places where they end.
-pub fn next_all_column(s: &[u8], ends: &[usize], format: Format, reader: Reader) -> Column
+pub fn next_all_column(
+    s: &[u8],
+    ends: &[usize],
+    format: Format,
+    reader: Reader,
+) -> Result<Totals, Refusal>
     ensures { column_outcome_of result ≡ column_of (reading_of format reader) format reader s.now ends.now }
 {
     let syntax = syntax_of(format, reader);
-    let flags = syntax.flags;
-    let admitted = admit(s, State::fresh(format), flags, reader);
-    match admitted {
-        Admission::Admitted => Column::Read(column_totals(
-            s,
-            ends,
-            fills(s, ends),
-            format,
-            syntax,
-            reader,
-        )),
-        Admission::Refused(refusal) => Column::Refused(refusal),
-    }
+    admit(s, State::fresh(format), syntax.flags, reader)?;
+    Ok(column_totals(s, ends, fills(s, ends), format, syntax, reader))
 }

@@ -2,88 +2,48 @@
 ghost use Rattle.std.specs.Prelude.{◌≡◌, ◌+◌, ◌≤◌, false, ◌&&◌, length, ◌==◌, nat_eq, nat_lt, slice_index};
 ghost use Rattle.word.specs.ByteSet.{member};
 ghost use Rattle.reader.specs.Reading.{syntax_for, reading_with, reading_for, passed_at};
-ghost use Rattle.reader.specs.Answer.{admission_number, read_outcome_of, skip_outcome_of};
+ghost use Rattle.reader.specs.Answer.{refusal_in, read_outcome_of, skip_outcome_of};
 ghost use Rattle.reader.specs.Calls.{read_of};
 ghost use Rattle.reader.specs.ZeroSkip.{is_zero, skip_refusal, skip_zeros_of};
 
+use crate::answer::{Answer, Read, Zeros};
 use crate::passing::{Syntax, landing, past_taken, syntax_for};
-use crate::skip::{Looked, look};
-use crate::state::{Admission, Reader, Refusal, State, admit_skip, moved, with_count};
+use crate::skip::look;
+use crate::state::{Reader, Refusal, State, admit_skip, moved, with_count};
 use word::byte_set::ByteSet;
 
-// What a conditional read did: it took a byte, it declined the byte that it saw, or there was none.
-#[derive(Clone, Copy)]
-pub enum Read {
-    Taken(u8),
-    Declined(u8),
-    End,
-    Refused(Refusal),
-}
-
-// An answer without the state, as a peek's and a take's.
-#[derive(Clone, Copy)]
-pub struct ReadReport {
-    pub read: Read,
-    pub taken: usize,
-    pub passed: usize,
-}
-
-#[derive(Clone, Copy)]
-pub struct ReadAnswer {
-    pub report: ReadReport,
-    pub state: State,
-}
-
-// What a zero skip did: how many zeros it took.
-#[derive(Clone, Copy)]
-pub enum Skipped {
-    Zeros(usize),
-    Refused(Refusal),
-}
-
-#[derive(Clone, Copy)]
-pub struct SkipReport {
-    pub skipped: Skipped,
-    pub taken: usize,
-    pub passed: usize,
-}
-
-#[derive(Clone, Copy)]
-pub struct SkipAnswer {
-    pub report: SkipReport,
-    pub state: State,
-}
-
-fn read_answered(read: Read, taken: usize, passed: usize, state: State) -> ReadAnswer
-    ensures { result ≡ record { report = record { read = read; taken = taken; passed = passed }; state = state } }
-{
-    let report = ReadReport {
-        read,
-        taken,
-        passed,
-    };
-    ReadAnswer { report, state }
-}
-
 // A conditional read given the reader's syntax.
-fn read_in(s: &[u8], state: State, syntax: Syntax, reader: Reader, wanted: ByteSet) -> ReadAnswer
+fn read_in(
+    s: &[u8],
+    state: State,
+    syntax: Syntax,
+    reader: Reader,
+    wanted: ByteSet,
+) -> Answer<Result<Read, Refusal>>
     ensures { read_outcome_of result ≡ read_of (reading_with syntax) s.now state reader (member wanted) }
 {
-    let looked = look(s, state, syntax, reader);
-    match looked {
-        Looked::Byte(b, place, passed) => {
+    match look(s, state, syntax, reader) {
+        Ok(seen) => {
+            let there = moved(state, seen.place);
+            let Some(b) = seen.byte else {
+                return Answer::new(Read::End, 0, seen.passed, there);
+            };
             if wanted.contains(b) {
-                return read_answered(Read::Taken(b), 1, passed, moved(state, place + 1));
+                return Answer::new(Read::Taken(b), 1, seen.passed, moved(state, seen.place + 1));
             }
-            read_answered(Read::Declined(b), 0, passed, moved(state, place))
+            Answer::new(Read::Declined(b), 0, seen.passed, there)
         }
-        Looked::End(place, passed) => read_answered(Read::End, 0, passed, moved(state, place)),
-        Looked::Refused(refusal) => read_answered(Read::Refused(refusal), 0, 0, state),
+        Err(refusal) => Answer::refused(refusal, state),
     }
 }
 
 // Takes the byte under the cursor, uncounted, where it is in the set, and declines it where it is not. The passing stays all the same.
-pub fn read_if(s: &[u8], state: State, reader: Reader, wanted: ByteSet) -> ReadAnswer
+pub fn read_if(
+    s: &[u8],
+    state: State,
+    reader: Reader,
+    wanted: ByteSet,
+) -> Answer<Result<Read, Refusal>>
     ensures { read_outcome_of result ≡ read_of (reading_for state reader) s.now state reader (member wanted) }
 {
     let syntax = syntax_for(state, reader);
@@ -91,7 +51,12 @@ pub fn read_if(s: &[u8], state: State, reader: Reader, wanted: ByteSet) -> ReadA
 }
 
 // The same for one byte.
-pub fn read_if_value_cased(s: &[u8], state: State, reader: Reader, value: u8) -> ReadAnswer
+pub fn read_if_value_cased(
+    s: &[u8],
+    state: State,
+    reader: Reader,
+    value: u8,
+) -> Answer<Result<Read, Refusal>>
     ensures { read_outcome_of result ≡ read_of (reading_for state reader) s.now state reader (λ b. nat_eq b value) }
 {
     let wanted = ByteSet::from_byte(value);
@@ -99,22 +64,11 @@ pub fn read_if_value_cased(s: &[u8], state: State, reader: Reader, value: u8) ->
 }
 
 // Whether a run of digits may begin: the refusals of a zero skip, 16, 17, 18, then 12 to 14.
-pub fn admit_run(s: &[u8], state: State, reader: Reader) -> Admission
-    ensures { admission_number result ≡ skip_refusal (syntax_for state reader).flags s.now state reader }
+pub fn admit_run(s: &[u8], state: State, reader: Reader) -> Result<(), Refusal>
+    ensures { refusal_in result ≡ skip_refusal (syntax_for state reader).flags s.now state reader }
 {
     let own = syntax_for(state, reader);
     admit_skip(s, state, own.flags, reader)
-}
-
-fn skip_answered(skipped: Skipped, taken: usize, passed: usize, state: State) -> SkipAnswer
-    ensures { result ≡ record { report = record { skipped = skipped; taken = taken; passed = passed }; state = state } }
-{
-    let report = SkipReport {
-        skipped,
-        taken,
-        passed,
-    };
-    SkipAnswer { report, state }
 }
 
 // Where a cursor lands at a place. Most places have no separator, and there no call is made. (It calls `landing`: what the loop of
@@ -146,7 +100,7 @@ fn is_zero_at(s: &[u8], place: usize) -> bool
 
 // Reads zeros until a read fails, from a state that is not refused. The loop keeps numbers only, and makes the state at its end; most
 // turns stand on a zero, which is no separator, so that test stands first.
-fn take_zeros(s: &[u8], state: State, syntax: Syntax, reader: Reader) -> SkipAnswer
+fn take_zeros(s: &[u8], state: State, syntax: Syntax, reader: Reader) -> Answer<Zeros>
     requires { (skip_refusal syntax.flags s.now state reader ≡ 0) × ((syntax.separator == 48) ≡ false) }
     ensures { skip_outcome_of result ≡ skip_zeros_of (reading_with syntax) s.now state reader }
 {
@@ -154,6 +108,7 @@ fn take_zeros(s: &[u8], state: State, syntax: Syntax, reader: Reader) -> SkipAns
     let mut count = state.count(reader);
     let mut taken: usize = 0;
     let mut passed: usize = 0;
+    // Document 01 names this form: a `loop` that breaks with the number of zeros.
     let zeros = loop {
         if is_zero_at(s, at) {
             at += 1;
@@ -173,12 +128,12 @@ fn take_zeros(s: &[u8], state: State, syntax: Syntax, reader: Reader) -> SkipAns
         taken += 1;
     };
     let end = with_count(moved(state, at), reader, count);
-    skip_answered(Skipped::Zeros(zeros), zeros, passed, end)
+    Answer::new(zeros, zeros, passed, end)
 }
 
 // The same where `0` is itself the separator (words that the check refuses): every zero is then judged by the rule. With the consecutive
 // flag each zero of a refused run would be judged by the whole run, so once the reader has counted the run is read at once.
-fn take_separator_zeros(s: &[u8], state: State, syntax: Syntax, reader: Reader) -> SkipAnswer
+fn take_separator_zeros(s: &[u8], state: State, syntax: Syntax, reader: Reader) -> Answer<Zeros>
     requires { (skip_refusal syntax.flags s.now state reader ≡ 0) × (syntax.separator ≡ 48) }
     ensures { skip_outcome_of result ≡ skip_zeros_of (reading_with syntax) s.now state reader }
 {
@@ -187,6 +142,7 @@ fn take_separator_zeros(s: &[u8], state: State, syntax: Syntax, reader: Reader) 
     let mut count = counted;
     let mut taken: usize = 0;
     let mut passed: usize = 0;
+    // Document 01 names this form: a `loop` that breaks with the number of zeros.
     let zeros = loop {
         let place = landing(s, syntax, count == 0, at);
         let over = place - at;
@@ -203,28 +159,26 @@ fn take_separator_zeros(s: &[u8], state: State, syntax: Syntax, reader: Reader) 
     };
     let stopped = moved(state, at);
     let end = with_count(stopped, reader, count);
-    skip_answered(Skipped::Zeros(zeros), zeros, passed, end)
+    Answer::new(zeros, zeros, passed, end)
 }
 
 // A zero skip given the reader's syntax.
-fn skip_zeros_in(s: &[u8], state: State, syntax: Syntax, reader: Reader) -> SkipAnswer
+fn skip_zeros_in(s: &[u8], state: State, syntax: Syntax, reader: Reader) -> Answer<Zeros>
     ensures { skip_outcome_of result ≡ skip_zeros_of (reading_with syntax) s.now state reader }
 {
-    let flags = syntax.flags;
-    let admitted = admit_skip(s, state, flags, reader);
-    match admitted {
-        Admission::Admitted => {
+    match admit_skip(s, state, syntax.flags, reader) {
+        Ok(()) => {
             if syntax.separator == 48 {
                 return take_separator_zeros(s, state, syntax, reader);
             }
             take_zeros(s, state, syntax, reader)
         }
-        Admission::Refused(refusal) => skip_answered(Skipped::Refused(refusal), 0, 0, state),
+        Err(refusal) => Answer::refused(refusal, state),
     }
 }
 
 // Takes the zeros under the cursor, each of which raises the reader's count, until a read of one fails.
-pub fn skip_zeros(s: &[u8], state: State, reader: Reader) -> SkipAnswer
+pub fn skip_zeros(s: &[u8], state: State, reader: Reader) -> Answer<Zeros>
     ensures { skip_outcome_of result ≡ skip_zeros_of (reading_for state reader) s.now state reader }
 {
     let syntax = syntax_for(state, reader);

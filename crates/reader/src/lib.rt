@@ -2,10 +2,10 @@
 // call takes the caller's buffer and a state by value, and returns the next state.
 #![tactic(auto)]
 
+pub mod answer;
 pub mod bytes;
 pub mod column;
 pub mod iterator;
-pub mod min;
 pub mod noskip;
 pub mod open;
 pub mod pairs;

@@ -1,25 +1,32 @@
 // Opening a cell: from a word that has arrived as two halves to a fresh state, if the word is accepted.
 ghost use Rattle.std.specs.Prelude.{◌≡◌};
-ghost use Rattle.reader.specs.Open.{open_of, open_outcome_of};
+ghost use Rattle.reader.specs.Open.{refused_number, open_of, open_outcome_of};
 
 use crate::state::State;
+use word::error::Error;
 use word::format_flags::Format;
 
-#[derive(Clone, Copy)]
-pub enum Opened {
-    Fresh(State),
-    // The number of the check's first line that fails.
-    Refused(u32),
+// A word that is not accepted, by the first line of the full check that fails.
+#[derive(Clone, Copy, Debug, PartialEq, Eq)]
+pub struct RefusedWord(pub Error);
+
+impl RefusedWord {
+    // That line's number in document 01.
+    pub fn number(self) -> u32
+        ensures { result ≡ refused_number self }
+    {
+        self.0.number()
+    }
 }
 
-pub fn open(lo: u64, hi: u64) -> Opened
+pub fn open(lo: u64, hi: u64) -> Result<State, RefusedWord>
     ensures { open_outcome_of result ≡ open_of lo hi }
 {
     let format = Format { lo, hi };
-    let number = format.error().number();
-    let accepted = number == 0;
+    let error = format.error();
+    let accepted = error.is_success();
     if accepted {
-        return Opened::Fresh(State::fresh(format));
+        return Ok(State::fresh(format));
     }
-    Opened::Refused(number)
+    Err(RefusedWord(error))
 }

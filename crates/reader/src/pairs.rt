@@ -1,13 +1,13 @@
 // Counts over bytes and the byte behind each: how many separators stand before a byte of some kind, or how many bytes are digits.
 // The loop has no branch, tells digits by their ranges and counts in a byte, so that many bytes are compared at once.
-ghost use Rattle.std.specs.Prelude.{◌≡◌, ◌+◌, ◌<◌, ◌≤◌, length, if◌then◌else◌};
+ghost use Rattle.std.specs.Prelude.{◌≡◌, ◌≤◌, length};
 ghost use Rattle.reader.specs.Code.Pairs.{matches_of, pairs_of};
 
 use word::digit::char_is_digit_by_range;
 
 // Which pairs count: those whose first byte is the separator, or all, by the kind of the second byte. A byte that is a digit and the
 // separator at once is a digit here.
-#[derive(Clone, Copy)]
+#[derive(Clone, Copy, Debug, PartialEq, Eq)]
 pub struct Pairs {
     pub separator: u8,
     pub radix: u8,
@@ -28,34 +28,22 @@ fn matches(pairs: Pairs, b: u8, next: u8) -> bool
             | (!digit & !separator & pairs.others))
 }
 
-fn add_if(count: u8, hit: bool) -> u8
-    requires { count < 255 }
-    ensures { result ≡ (if hit then 1 else 0) + count }
-{
-    if hit { count + 1 } else { count }
-}
-
 // The pairs of a short slice.
 fn count_short(pairs: Pairs, s: &[u8]) -> u8
     requires { length s.now ≤ 255 }
     ensures { (result ≡ pairs_of pairs s.now) × (result ≤ length s.now) }
 {
     let mut count: u8 = 0;
+    // By index: tried over the windows, slower. The tail of a short slice is then not compared several bytes at once.
     let mut i: usize = 1;
     while i < s.len() {
         let before = i - 1;
         let b = s[before];
         let next = s[i];
-        count = add_if(count, matches(pairs, b, next));
+        count += u8::from(matches(pairs, b, next));
         i += 1;
     }
     count
-}
-
-fn wide(count: u8) -> usize
-    ensures { result ≡ count }
-{
-    count as usize
 }
 
 // The pairs of a slice, 224 at a time: seven times as many as are compared at once.
@@ -63,14 +51,11 @@ pub(crate) fn count_pairs(pairs: Pairs, s: &[u8]) -> usize
     ensures { (result ≡ pairs_of pairs s.now) × (result ≤ length s.now) }
 {
     let mut count: usize = 0;
-    let mut from: usize = 0;
-    while 224 < s.len() - from {
-        let end = from + 225;
-        let few = count_short(pairs, &s[from..end]);
-        count += wide(few);
-        from += 224;
+    let mut rest = s;
+    // No `chunks`: a part begins with the last byte of the one before, whose pair with the next byte counts too.
+    while 224 < rest.len() {
+        count += usize::from(count_short(pairs, &rest[0..225]));
+        rest = &rest[224..];
     }
-    let end = s.len();
-    let few = count_short(pairs, &s[from..end]);
-    count + wide(few)
+    count + usize::from(count_short(pairs, rest))
 }

@@ -1,28 +1,61 @@
-// Passing: what a format word says to a reader, and how far the reader's cursor moves over separators at a place.
-ghost use Rattle.std.specs.Prelude.{◌≡◌, ◌+◌, ◌-◌, ◌%◌, ◌^◌, ◌<◌, ◌≤◌, true, false, not, ◌&&◌, length, drop, if◌then◌else◌, ◌==◌, slice_index};
-ghost use Rattle.std.proofs.Math.Option.{some, none};
+// Passing: what a format word says to a reader, and how far the reader's cursor moves over separators at a place. A slice and a place in
+// it stay two arguments: a pair of them would be made anew for each byte, and how far the place may be differs from call to call.
+ghost use Rattle.std.specs.Prelude.{◌≡◌, ◌+◌, ◌-◌, ◌%◌, ◌^◌, ◌<◌, ◌≤◌, true, false, not, ◌&&◌, length, drop, if◌then◌else◌, ◌==◌, slice_index, Some, None, MatchOption};
+ghost use Rattle.std.specs.Int.NonZero.{non_zero_u8_get};
 ghost use Rattle.word.specs.Word.{mantissa_radix};
 ghost use Rattle.reader.specs.Rule.{rule_of};
 ghost use Rattle.reader.specs.Code.RuleWords.{IsLater};
 ghost use Rattle.reader.specs.Place.{byte_at, before, after, first_other, separator_run, nearest};
-ghost use Rattle.reader.specs.Reading.{flags_of, syntax_of, syntax_for, reading_with, neighbour_of, previous, following, passed_at};
+ghost use Rattle.reader.specs.Reading.{flags_of, syntax_of, syntax_for, reading_with, syntax_in, neighbour_of, previous, following, passed_at};
 
 use crate::rule;
 use crate::rule::{Flags, Later, Neighbour};
 use crate::search::search_from;
 use crate::state::{Reader, State};
+use std::num::NonZeroU8;
 use word::digit::char_is_digit_by_table;
 use word::format_flags::Format;
 
 // What a format word says to one reader.
-#[derive(Clone, Copy)]
+#[derive(Clone, Copy, Debug, PartialEq, Eq)]
 pub struct Syntax {
     pub separator: u8,
     pub radix: u8,
     pub flags: Flags,
 }
 
-// The flags of a reader. The special reader has one flag, which stands for all four.
+// The same of a word that has a separator: 0 would stand for none.
+#[derive(Clone, Copy)]
+pub struct Separated {
+    pub separator: NonZeroU8,
+    pub radix: u8,
+    pub flags: Flags,
+}
+
+impl Separated {
+    fn of(syntax: Syntax) -> Option<Separated>
+        ensures { MatchOption result (syntax.separator ≡ 0) (λ x. syntax_in x ≡ syntax) }
+    {
+        let separator = NonZeroU8::new(syntax.separator)?;
+        Some(Separated {
+            separator,
+            radix: syntax.radix,
+            flags: syntax.flags,
+        })
+    }
+
+    fn syntax(self) -> Syntax
+        ensures { result ≡ syntax_in self }
+    {
+        Syntax {
+            separator: self.separator.get(),
+            radix: self.radix,
+            flags: self.flags,
+        }
+    }
+}
+
+// The flags of a reader. The special reader has one flag, which stands for all four. An arm for each: the word's methods differ in name.
 pub(crate) fn flags_of(format: Format, reader: Reader) -> Flags
     ensures { result ≡ flags_of format reader }
 {
@@ -84,7 +117,7 @@ pub fn syntax_for(state: State, reader: Reader) -> Syntax
 
 // Beyond either end there is no byte.
 fn absent() -> Neighbour
-    ensures { (syntax : Syntax) → result ≡ neighbour_of (reading_with syntax) none }
+    ensures { (syntax : Syntax) → result ≡ neighbour_of (reading_with syntax) None }
 {
     Neighbour {
         exists: false,
@@ -95,7 +128,7 @@ fn absent() -> Neighbour
 
 // What a rule asks of a byte.
 fn neighbour(syntax: Syntax, b: u8) -> Neighbour
-    ensures { result ≡ neighbour_of (reading_with syntax) (some b) }
+    ensures { result ≡ neighbour_of (reading_with syntax) (Some b) }
 {
     Neighbour {
         exists: true,
@@ -122,14 +155,16 @@ fn index_before(at: usize) -> usize
     std::num::wrapping_sub_usize(at, 1)
 }
 
-// The index of the nearest byte before a place that is no separator.
-fn previous_other(s: &[u8], separator: u8, at: usize) -> usize
-    requires { (0 < separator) × (at ≤ length s.now) }
-    ensures { byte_at s.now result ≡ first_other separator (before s.now at) }
+// The index of the nearest byte before a place that is no separator. By index and no iterator backwards: document 01 wants the previous
+// index by a subtract that wraps.
+fn previous_other(s: &[u8], separator: NonZeroU8, at: usize) -> usize
+    requires { at ≤ length s.now }
+    ensures { byte_at s.now result ≡ first_other (non_zero_u8_get separator) (before s.now at) }
 {
+    let byte = separator.get();
     let mut i = index_before(at);
     while i < s.len() {
-        if s[i] != separator {
+        if s[i] != byte {
             return i;
         }
         i = index_before(i);
@@ -138,9 +173,9 @@ fn previous_other(s: &[u8], separator: u8, at: usize) -> usize
 }
 
 // The first index from a place on whose byte is no separator, or the end.
-fn run_end(s: &[u8], separator: u8, at: usize) -> usize
-    requires { (0 < separator) × (at ≤ length s.now) }
-    ensures { (result ≡ at + separator_run separator (drop at s.now)) × (result ≤ length s.now) }
+fn run_end(s: &[u8], separator: NonZeroU8, at: usize) -> usize
+    requires { at ≤ length s.now }
+    ensures { (result ≡ at + separator_run (non_zero_u8_get separator) (drop at s.now)) × (result ≤ length s.now) }
 {
     let found = search_from(s, separator, at);
     found.end
@@ -148,46 +183,46 @@ fn run_end(s: &[u8], separator: u8, at: usize) -> usize
 
 // The neighbour before a place: the byte just before, or with the consecutive flag the nearest one that is no separator. Where it is
 // not wanted no byte is read.
-fn previous_neighbour(s: &[u8], syntax: Syntax, wanted: bool, at: usize) -> Neighbour
-    requires { (0 < syntax.separator) × (at ≤ length s.now) }
-    ensures { result ≡ (if wanted then previous (reading_with syntax) s.now at else neighbour_of (reading_with syntax) none) }
+fn previous_neighbour(s: &[u8], separated: Separated, wanted: bool, at: usize) -> Neighbour
+    requires { at ≤ length s.now }
+    ensures { result ≡ (if wanted then previous (reading_with (syntax_in separated)) s.now at else neighbour_of (reading_with (syntax_in separated)) None) }
 {
     if !wanted {
         return absent();
     }
-    if syntax.flags.consecutive {
-        let other = previous_other(s, syntax.separator, at);
-        return neighbour_at(s, syntax, other);
+    if separated.flags.consecutive {
+        let other = previous_other(s, separated.separator, at);
+        return neighbour_at(s, separated.syntax(), other);
     }
     let i = index_before(at);
-    neighbour_at(s, syntax, i)
+    neighbour_at(s, separated.syntax(), i)
 }
 
 // The neighbour after a place, likewise.
-fn next_neighbour(s: &[u8], syntax: Syntax, wanted: bool, at: usize) -> Neighbour
-    requires { (0 < syntax.separator) × (at < length s.now) }
-    ensures { result ≡ (if wanted then following (reading_with syntax) s.now at else neighbour_of (reading_with syntax) none) }
+fn next_neighbour(s: &[u8], separated: Separated, wanted: bool, at: usize) -> Neighbour
+    requires { at < length s.now }
+    ensures { result ≡ (if wanted then following (reading_with (syntax_in separated)) s.now at else neighbour_of (reading_with (syntax_in separated)) None) }
 {
     if !wanted {
         return absent();
     }
     let i = at + 1;
-    if syntax.flags.consecutive {
-        let other = run_end(s, syntax.separator, i);
-        return neighbour_at(s, syntax, other);
+    if separated.flags.consecutive {
+        let other = run_end(s, separated.separator, i);
+        return neighbour_at(s, separated.syntax(), other);
     }
-    neighbour_at(s, syntax, i)
+    neighbour_at(s, separated.syntax(), i)
 }
 
 // Whether the rule lets the separator at a place be passed. Only the neighbours that it names are looked at.
-fn passes(s: &[u8], syntax: Syntax, first: bool, at: usize) -> bool
-    requires { (0 < syntax.separator) × (at < length s.now) }
-    ensures { result ≡ rule_of syntax.flags first (previous (reading_with syntax) s.now at) (following (reading_with syntax) s.now at) }
+fn passes(s: &[u8], separated: Separated, first: bool, at: usize) -> bool
+    requires { at < length s.now }
+    ensures { result ≡ rule_of separated.flags first (previous (reading_with (syntax_in separated)) s.now at) (following (reading_with (syntax_in separated)) s.now at) }
 {
-    let named = rule::names_of(syntax.flags, first);
-    let earlier = previous_neighbour(s, syntax, named.previous, at);
-    let next = next_neighbour(s, syntax, named.next, at);
-    rule::rule(syntax.flags, first, earlier, next)
+    let named = rule::names_of(separated.flags, first);
+    let earlier = previous_neighbour(s, separated, named.previous, at);
+    let next = next_neighbour(s, separated, named.next, at);
+    rule::rule(separated.flags, first, earlier, next)
 }
 
 // Where a cursor lands that passes what it may at a place. Most bytes are no separator, so that compare stands first; a separator 0,
@@ -199,32 +234,31 @@ pub(crate) fn landing(s: &[u8], syntax: Syntax, first: bool, at: usize) -> usize
     if s.len() <= at {
         return at;
     }
-    let separator = syntax.separator;
     let b = s[at];
-    if b != separator {
+    if b != syntax.separator {
         return at;
     }
-    let nothing = separator == 0;
-    if nothing {
+    let Some(separated) = Separated::of(syntax) else {
+        return at;
+    };
+    let may = passes(s, separated, first, at);
+    if !may {
         return at;
     }
-    if !passes(s, syntax, first, at) {
-        return at;
-    }
-    let run = syntax.flags.consecutive;
+    let run = separated.flags.consecutive;
     if run {
-        return run_end(s, separator, at);
+        return run_end(s, separated.separator, at);
     }
     at + 1
 }
 
 // Where the byte behind a separator stands that its rule looks at; it is also where a cursor lands that passes there.
-fn behind(s: &[u8], syntax: Syntax, at: usize) -> usize
-    requires { (0 < syntax.separator) × (at < length s.now) × (slice_index s.now at ≡ syntax.separator) }
-    ensures { (byte_at s.now result ≡ nearest syntax.separator syntax.flags.consecutive (after s.now at)) × (result ≡ at + (if syntax.flags.consecutive then separator_run syntax.separator (drop at s.now) else 1)) × (result ≤ length s.now) }
+fn behind(s: &[u8], separated: Separated, at: usize) -> usize
+    requires { (at < length s.now) × (slice_index s.now at ≡ (syntax_in separated).separator) }
+    ensures { (byte_at s.now result ≡ nearest (syntax_in separated).separator separated.flags.consecutive (after s.now at)) × (result ≡ at + (if separated.flags.consecutive then separator_run (syntax_in separated).separator (drop at s.now) else 1)) × (result ≤ length s.now) }
 {
-    if syntax.flags.consecutive {
-        return run_end(s, syntax.separator, at);
+    if separated.flags.consecutive {
+        return run_end(s, separated.separator, at);
     }
     at + 1
 }
@@ -235,15 +269,16 @@ fn later_landing(s: &[u8], syntax: Syntax, later: Later, at: usize) -> usize
     requires { IsLater syntax.flags later × (at < length s.now) × (slice_index s.now at ≡ syntax.separator) }
     ensures { (result ≡ at + passed_at (reading_with syntax) s.now false at) × (result ≤ length s.now) }
 {
-    if syntax.separator == 0 {
+    let Some(separated) = Separated::of(syntax) else {
+        return at;
+    };
+    let never = later.0 == 0;
+    if never {
         return at;
     }
-    if later.never {
-        return at;
-    }
-    let place = behind(s, syntax, at);
+    let place = behind(s, separated, at);
     let next = neighbour_at(s, syntax, place);
-    if rule::passes_before(later.word, next) {
+    if later.passes_before(next) {
         return place;
     }
     at
@@ -273,8 +308,11 @@ pub(crate) fn past_taken(s: &[u8], syntax: Syntax, refused: bool, at: usize) -> 
     requires { (at < length s.now) × (refused ≡ true → slice_index s.now at ≡ syntax.separator) }
     ensures { (result ≡ at + (if refused && not (syntax.separator == 0) then (if syntax.flags.consecutive then separator_run syntax.separator (drop at s.now) else 1) else 1)) × (at < result) × (result ≤ length s.now) }
 {
-    if refused & (syntax.separator != 0) {
-        return behind(s, syntax, at);
+    if !refused {
+        return at + 1;
     }
-    at + 1
+    let Some(separated) = Separated::of(syntax) else {
+        return at + 1;
+    };
+    behind(s, separated, at)
 }

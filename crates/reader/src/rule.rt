@@ -1,6 +1,6 @@
 // The rule table: where a reader may pass a separator, by its flags and what is known of the separator's neighbours. One table in
 // place of the fourteen macros of lexical-util's skip.rs.
-ghost use Rattle.std.specs.Prelude.{◌≡◌, ◌<◌, ◌≤◌, if◌then◌else◌};
+ghost use Rattle.std.specs.Prelude.{◌≡◌, ◌<◌};
 ghost use Rattle.word.specs.Bits.{bit};
 ghost use Rattle.reader.specs.Reading.{has_any_flag, is_consecutive_alone};
 ghost use Rattle.reader.specs.Rule.{rule_of, names_of};
@@ -9,7 +9,7 @@ ghost use Rattle.reader.specs.Code.RuleWords.{cell_of, code_of, IsEntry, IsLater
 use word::format_flags::bit_at;
 
 // Where a reader may pass separators.
-#[derive(Clone, Copy)]
+#[derive(Clone, Copy, Debug, PartialEq, Eq)]
 pub struct Flags {
     pub internal: bool,
     pub leading: bool,
@@ -31,8 +31,9 @@ pub(crate) fn is_consecutive_alone(flags: Flags) -> bool
     flags.consecutive & !flags.internal & !flags.leading & !flags.trailing
 }
 
-// What a rule asks of a separator's neighbour.
-#[derive(Clone, Copy)]
+// What a rule asks of a separator's neighbour. No Option: the rules ask for a digit or a separator also where there is no neighbour,
+// and the bits of an entry are numbered by all three.
+#[derive(Clone, Copy, Debug, PartialEq, Eq)]
 pub struct Neighbour {
     pub exists: bool,
     pub digit: bool,
@@ -40,50 +41,37 @@ pub struct Neighbour {
 }
 
 // Which neighbours a rule looks at.
-#[derive(Clone, Copy)]
+#[derive(Clone, Copy, Debug, PartialEq, Eq)]
 pub struct Wanted {
     pub previous: bool,
     pub next: bool,
 }
 
-// The rule of a reader that has counted: whether it never holds, and the entry of its cell.
-#[derive(Clone, Copy)]
-pub struct Later {
-    pub never: bool,
-    pub word: u64,
-}
+// The rule of a reader that has counted: the entry of its cell. Without a bit it never holds.
+#[derive(Clone, Copy, Debug, PartialEq, Eq)]
+pub struct Later(pub u64);
 
 // The cells whose rule looks at the byte before the separator, and those that look at the byte after it.
 const NAMES_PREVIOUS: u64 = 0x14545554;
 
 const NAMES_NEXT: u64 = 0x37CCFFDC;
 
-// The cells whose rule never holds.
-const NEVER_HOLDS: u64 = 0x00230023;
-
-// What a bool adds to a number: its weight, or nothing.
-fn weighed(b: bool, weight: u32) -> u32
-    ensures { (result ≡ (if b then weight else 0)) × (result ≤ weight) }
-{
-    if b { weight } else { 0 }
-}
-
 // The number of a neighbour, by which an entry of the table is read.
 fn code_of(p: Neighbour) -> u32
     ensures { (result ≡ code_of p) × (result < 8) }
 {
-    weighed(p.exists, 1) + weighed(p.digit, 2) + weighed(p.separator, 4)
+    u32::from(p.exists) + 2 * u32::from(p.digit) + 4 * u32::from(p.separator)
 }
 
 // The number of the table's cell for a reader with these flags: first while its count is 0, later otherwise.
 fn cell_of(flags: Flags, first: bool) -> u32
     ensures { (result ≡ cell_of flags first) × (result < 32) }
 {
-    weighed(!first, 1)
-        + weighed(flags.internal, 2)
-        + weighed(flags.leading, 4)
-        + weighed(flags.trailing, 8)
-        + weighed(flags.consecutive, 16)
+    u32::from(!first)
+        + 2 * u32::from(flags.internal)
+        + 4 * u32::from(flags.leading)
+        + 8 * u32::from(flags.trailing)
+        + 16 * u32::from(flags.consecutive)
 }
 
 // The table as data: an entry for each cell (cell_of), in which bit 8 * p + n is the rule's answer for neighbours with the codes p
@@ -143,17 +131,16 @@ pub(crate) fn later_rule(flags: Flags) -> Later
     ensures { IsLater flags result }
 {
     let cell = cell_of(flags, false);
-    Later {
-        never: bit_at(NEVER_HOLDS, cell),
-        word: rule_word(cell),
-    }
+    Later(rule_word(cell))
 }
 
-// What such an entry says of the neighbour after the separator.
-pub(crate) fn passes_before(word: u64, next: Neighbour) -> bool
-    ensures { result ≡ bit word (code_of next) }
-{
-    bit_at(word, code_of(next))
+impl Later {
+    // What it says of the neighbour after the separator.
+    pub(crate) fn passes_before(self, next: Neighbour) -> bool
+        ensures { result ≡ bit self.0 (code_of next) }
+    {
+        bit_at(self.0, code_of(next))
+    }
 }
 
 // Which neighbours the rule of a cell looks at.

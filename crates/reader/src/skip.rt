@@ -1,5 +1,5 @@
 // The cursor that passes digit separators: peek, take and block take. After lexical-util's skip.rs.
-ghost use Rattle.std.specs.Prelude.{◌≡◌, ◌+◌, ◌-◌, ◌^◌, ◌<◌, ◌≤◌, min, ◌&&◌, length, if◌then◌else◌, nat_eq};
+ghost use Rattle.std.specs.Prelude.{◌≡◌, ◌+◌, ◌-◌, ◌^◌, ◌<◌, ◌≤◌, min, ◌&&◌, length, if◌then◌else◌, nat_eq, Ok};
 ghost use Rattle.word.specs.Digit.{is_digit};
 ghost use Rattle.word.specs.Word.{digit_separator, mantissa_radix};
 ghost use Rattle.reader.specs.Place.{is_separator};
@@ -7,93 +7,30 @@ ghost use Rattle.reader.specs.Reading.{reading_with, reading_for};
 ghost use Rattle.reader.specs.State.{count_of, count_sum};
 ghost use Rattle.reader.specs.Code.Looks.{look_outcome, LookFits};
 ghost use Rattle.reader.specs.Code.TakeSums.{take_sums_from};
-ghost use Rattle.reader.specs.Answer.{outcome_of, peek_outcome_of, count_outcome_of, block_outcome_of};
+ghost use Rattle.reader.specs.Answer.{outcome_of, count_outcome_of, block_outcome_of};
 ghost use Rattle.reader.specs.Calls.{peek_of, next_of, next_all_of, taken_from, shown_count, current_count_of, peeked, refusal_with};
 ghost use Rattle.reader.specs.Block.{block_from, take_n_of, BlockPart};
 
-use crate::min::min_usize;
+use crate::answer::{Answer, Block, Seen};
 use crate::passing::{Syntax, landing, past_taken, separator_landing, syntax_for};
 use crate::rule::{Flags, has_any, later_rule};
 use crate::state::{
-    Admission, Reader, Refusal, State, admit, admit_block, admit_place, counted, counts_digits,
-    moved, with_count,
+    Reader, Refusal, State, admit, admit_block, admit_place, counted, counts_digits, moved,
+    with_count,
 };
 use word::digit::char_is_digit_by_table;
 use word::format_flags::Format;
 
-// What a peek or a take sees.
-#[derive(Clone, Copy)]
-pub enum Seen {
-    Byte(u8),
-    End,
-    Refused(Refusal),
-}
-
-// An answer without the state: what was seen, how many bytes were taken, how many separators passed.
-#[derive(Clone, Copy)]
-pub struct Report {
-    pub seen: Seen,
-    pub taken: usize,
+// What a look at the cursor finds: the byte, if there is one, the place that the cursor moves to, and how many separators it passes.
+#[derive(Clone, Copy, Debug, PartialEq, Eq)]
+pub struct Sight {
+    pub byte: Option<u8>,
+    pub place: usize,
     pub passed: usize,
-}
-
-#[derive(Clone, Copy)]
-pub struct Answer {
-    pub report: Report,
-    pub state: State,
-}
-
-// A peek's answer without the state, likewise.
-#[derive(Clone, Copy)]
-pub struct PeekReport {
-    pub seen: Seen,
-    pub taken: usize,
-    pub passed: usize,
-}
-
-#[derive(Clone, Copy)]
-pub struct Peeked {
-    pub report: PeekReport,
-    pub state: State,
-}
-
-// What a block take answers: a block, which may be empty, or none.
-#[derive(Clone, Copy)]
-pub enum Block {
-    Taken,
-    None,
-    Refused(Refusal),
-}
-
-#[derive(Clone, Copy)]
-pub struct BlockReport {
-    pub block: Block,
-    pub taken: usize,
-    pub passed: usize,
-}
-
-#[derive(Clone, Copy)]
-pub struct BlockAnswer {
-    pub report: BlockReport,
-    pub state: State,
-}
-
-#[derive(Clone, Copy)]
-pub enum Count {
-    Shown(usize),
-    Refused(Refusal),
-}
-
-// What a look at the cursor finds: a byte or the end, with the place that the cursor moves to and how many separators it passes.
-#[derive(Clone, Copy)]
-pub enum Looked {
-    Byte(u8, usize, usize),
-    End(usize, usize),
-    Refused(Refusal),
 }
 
 // What takes to the end come to, as numbers: the place, the reader's count, and how many separators were passed.
-#[derive(Clone, Copy)]
+#[derive(Clone, Copy, Debug, PartialEq, Eq)]
 pub struct TakeSums {
     pub at: usize,
     pub count: usize,
@@ -114,83 +51,44 @@ pub fn is_digit_separator(format: Format, c: u8) -> bool
 }
 
 // Passes what the reader may pass at the cursor, and looks at the byte then under it. All calls begin so.
-pub(crate) fn look(s: &[u8], state: State, syntax: Syntax, reader: Reader) -> Looked
+pub(crate) fn look(s: &[u8], state: State, syntax: Syntax, reader: Reader) -> Result<Sight, Refusal>
     ensures outcome { look_outcome state result ≡ peek_of (reading_with syntax) s.now state reader }
     ensures fits { LookFits s.now state result }
 {
-    let flags = syntax.flags;
-    let admitted = admit(s, state, flags, reader);
-    match admitted {
-        Admission::Admitted => look_past(s, state, syntax, reader),
-        Admission::Refused(refusal) => Looked::Refused(refusal),
-    }
+    admit(s, state, syntax.flags, reader)?;
+    Ok(look_past(s, state, syntax, reader))
 }
 
 // The same of a state that is not refused.
-fn look_past(s: &[u8], state: State, syntax: Syntax, reader: Reader) -> Looked
+fn look_past(s: &[u8], state: State, syntax: Syntax, reader: Reader) -> Sight
     requires { (state.cursor ≤ length s.now) × (count_sum state ≤ state.cursor) }
-    ensures outcome { look_outcome state result ≡ peeked (reading_with syntax) s.now state reader }
-    ensures fits { LookFits s.now state result }
+    ensures outcome { look_outcome state (Ok result) ≡ peeked (reading_with syntax) s.now state reader }
+    ensures fits { LookFits s.now state (Ok result) }
 {
     let at = state.cursor;
     let place = landing(s, syntax, state.count(reader) == 0, at);
     let passed = place - at;
-    if place < s.len() {
-        let b = s[place];
-        return Looked::Byte(b, place, passed);
-    }
-    Looked::End(place, passed)
-}
-
-fn answered(seen: Seen, taken: usize, passed: usize, state: State) -> Answer
-    ensures { result ≡ record { report = record { seen = seen; taken = taken; passed = passed }; state = state } }
-{
-    let report = Report {
-        seen,
-        taken,
+    let byte = s.get(place).copied();
+    Sight {
+        byte,
+        place,
         passed,
-    };
-    Answer { report, state }
-}
-
-impl Peeked {
-    // The same as a take would answer it.
-    pub fn answer(self) -> Answer
-        ensures { outcome_of result ≡ peek_outcome_of self }
-    {
-        let report = self.report;
-        let seen = report.seen;
-        answered(seen, report.taken, report.passed, self.state)
     }
-}
-
-// A peek takes nothing.
-fn peek_answered(seen: Seen, passed: usize, state: State) -> Peeked
-    ensures { result ≡ record { report = record { seen = seen; taken = 0; passed = passed }; state = state } }
-{
-    let report = PeekReport {
-        seen,
-        taken: 0,
-        passed,
-    };
-    Peeked { report, state }
 }
 
 // A peek given the reader's syntax.
-fn peek_in(s: &[u8], state: State, syntax: Syntax, reader: Reader) -> Peeked
-    ensures { peek_outcome_of result ≡ peek_of (reading_with syntax) s.now state reader }
+fn peek_in(s: &[u8], state: State, syntax: Syntax, reader: Reader) -> Answer<Seen>
+    ensures { outcome_of result ≡ peek_of (reading_with syntax) s.now state reader }
 {
-    let looked = look(s, state, syntax, reader);
-    match looked {
-        Looked::Byte(b, place, passed) => peek_answered(Seen::Byte(b), passed, moved(state, place)),
-        Looked::End(place, passed) => peek_answered(Seen::End, passed, moved(state, place)),
-        Looked::Refused(refusal) => peek_answered(Seen::Refused(refusal), 0, state),
+    match look(s, state, syntax, reader) {
+        Ok(seen) => Answer::new(seen.byte, 0, seen.passed, moved(state, seen.place)),
+        Err(refusal) => Answer::refused(refusal, state),
     }
 }
 
 // The byte under the cursor, after passing what the reader may pass.
-pub fn peek(s: &[u8], state: State, reader: Reader) -> Peeked
-    ensures { peek_outcome_of result ≡ peek_of (reading_for state reader) s.now state reader }
+pub fn peek(s: &[u8], state: State, reader: Reader) -> Answer<Seen>
+    ensures { outcome_of result ≡ peek_of (reading_for state reader) s.now state reader }
 {
     let syntax = syntax_for(state, reader);
     peek_in(s, state, syntax, reader)
@@ -209,22 +107,28 @@ fn past_byte(state: State, syntax: Syntax, reader: Reader, b: u8) -> State
 }
 
 // A take given the reader's syntax, for calls that take many bytes.
-fn next_in(s: &[u8], state: State, syntax: Syntax, reader: Reader) -> Answer
+fn next_in(s: &[u8], state: State, syntax: Syntax, reader: Reader) -> Answer<Seen>
     ensures { outcome_of result ≡ next_of (reading_with syntax) s.now state reader }
 {
-    let looked = look(s, state, syntax, reader);
-    match looked {
-        Looked::Byte(b, place, passed) => {
-            let next = past_byte(moved(state, place), syntax, reader, b);
-            answered(Seen::Byte(b), 1, passed, next)
+    match look(s, state, syntax, reader) {
+        Ok(seen) => {
+            let there = moved(state, seen.place);
+            match seen.byte {
+                Some(b) => Answer::new(
+                    Some(b),
+                    1,
+                    seen.passed,
+                    past_byte(there, syntax, reader, b),
+                ),
+                None => Answer::new(None, 0, seen.passed, there),
+            }
         }
-        Looked::End(place, passed) => answered(Seen::End, 0, passed, moved(state, place)),
-        Looked::Refused(refusal) => answered(Seen::Refused(refusal), 0, 0, state),
+        Err(refusal) => Answer::refused(refusal, state),
     }
 }
 
 // Takes the byte under the cursor, after passing what the reader may pass.
-pub fn next(s: &[u8], state: State, reader: Reader) -> Answer
+pub fn next(s: &[u8], state: State, reader: Reader) -> Answer<Seen>
     ensures { outcome_of result ≡ next_of (reading_for state reader) s.now state reader }
 {
     let syntax = syntax_for(state, reader);
@@ -275,6 +179,7 @@ pub(crate) fn take_run(
     let mut at = start;
     let mut count = counted;
     let mut passed: usize = 0;
+    // No `for`: a turn may go over a whole run of separators.
     while at < s.len() {
         let b = s[at];
         if b != separator {
@@ -303,7 +208,7 @@ pub(crate) fn take_run(
 }
 
 // The same from a state that is not refused, and the state at the end.
-fn take_all(s: &[u8], state: State, syntax: Syntax, reader: Reader) -> Answer
+fn take_all(s: &[u8], state: State, syntax: Syntax, reader: Reader) -> Answer<Seen>
     requires { refusal_with syntax.flags s.now state reader ≡ 0 }
     ensures { outcome_of result ≡ next_all_of (reading_with syntax) s.now state reader }
 {
@@ -312,23 +217,21 @@ fn take_all(s: &[u8], state: State, syntax: Syntax, reader: Reader) -> Answer
     let run = take_run(s, syntax, counts, start, state.count(reader));
     let end = with_count(moved(state, run.at), reader, run.count);
     let taken = run.at - start - run.passed;
-    answered(Seen::End, taken, run.passed, end)
+    Answer::new(None, taken, run.passed, end)
 }
 
 // Takes until there is no byte, given the reader's syntax.
-fn next_all_in(s: &[u8], state: State, syntax: Syntax, reader: Reader) -> Answer
+fn next_all_in(s: &[u8], state: State, syntax: Syntax, reader: Reader) -> Answer<Seen>
     ensures { outcome_of result ≡ next_all_of (reading_with syntax) s.now state reader }
 {
-    let flags = syntax.flags;
-    let admitted = admit(s, state, flags, reader);
-    match admitted {
-        Admission::Admitted => take_all(s, state, syntax, reader),
-        Admission::Refused(refusal) => answered(Seen::Refused(refusal), 0, 0, state),
+    match admit(s, state, syntax.flags, reader) {
+        Ok(()) => take_all(s, state, syntax, reader),
+        Err(refusal) => Answer::refused(refusal, state),
     }
 }
 
 // Takes to the end of the buffer in one call.
-pub fn next_all(s: &[u8], state: State, reader: Reader) -> Answer
+pub fn next_all(s: &[u8], state: State, reader: Reader) -> Answer<Seen>
     ensures { outcome_of result ≡ next_all_of (reading_for state reader) s.now state reader }
 {
     let syntax = syntax_for(state, reader);
@@ -364,25 +267,11 @@ fn shown_count(state: State, syntax: Syntax, reader: Reader) -> usize
 }
 
 // How many digits the reader has counted, as the crate shows it.
-pub fn current_count(s: &[u8], state: State, reader: Reader) -> Count
+pub fn current_count(s: &[u8], state: State, reader: Reader) -> Result<usize, Refusal>
     ensures { count_outcome_of result ≡ current_count_of (reading_for state reader) s.now state reader }
 {
-    let admitted = admit_place(s, state);
-    match admitted {
-        Admission::Admitted => Count::Shown(shown_count(state, syntax_for(state, reader), reader)),
-        Admission::Refused(refusal) => Count::Refused(refusal),
-    }
-}
-
-fn block_answered(block: Block, taken: usize, state: State) -> BlockAnswer
-    ensures { result ≡ record { report = record { block = block; taken = taken; passed = 0 }; state = state } }
-{
-    let report = BlockReport {
-        block,
-        taken,
-        passed: 0,
-    };
-    BlockAnswer { report, state }
+    admit_place(s, state)?;
+    Ok(shown_count(state, syntax_for(state, reader), reader))
 }
 
 // How many of n bytes there are from the cursor on. No sum of n and the cursor is formed, so any n will do.
@@ -390,30 +279,29 @@ fn bytes_left(s: &[u8], cursor: usize, n: usize) -> usize
     requires { cursor ≤ length s.now }
     ensures { result ≡ min n (length s.now - cursor) }
 {
-    min_usize(n, s.len() - cursor)
+    n.min(s.len() - cursor)
 }
 
 // The block of a state that is not refused.
-fn block_from(s: &[u8], state: State, flags: Flags, n: usize) -> BlockAnswer
+fn block_from(s: &[u8], state: State, flags: Flags, n: usize) -> Answer<Block>
     requires { state.cursor ≤ length s.now }
     ensures { block_outcome_of result ≡ block_from flags s.now state n }
 {
     if has_any(flags) {
-        return block_answered(Block::None, 0, state);
+        return Answer::new(None, 0, 0, state);
     }
     let cursor = state.cursor;
     let taken = bytes_left(s, cursor, n);
-    block_answered(Block::Taken, taken, moved(state, cursor + taken))
+    Answer::new(Some(taken), taken, 0, moved(state, cursor + taken))
 }
 
 // Takes up to n bytes at once, by a reader without flags; one with any flag answers none and stays.
-pub fn take_n(s: &[u8], state: State, reader: Reader, n: usize) -> BlockAnswer
+pub fn take_n(s: &[u8], state: State, reader: Reader, n: usize) -> Answer<Block>
     ensures { block_outcome_of result ≡ take_n_of (reading_for state reader) s.now state reader n }
 {
-    let admitted = admit_block(s, state, reader);
-    match admitted {
-        Admission::Admitted => block_from(s, state, syntax_for(state, reader).flags, n),
-        Admission::Refused(refusal) => block_answered(Block::Refused(refusal), 0, state),
+    match admit_block(s, state, reader) {
+        Ok(()) => block_from(s, state, syntax_for(state, reader).flags, n),
+        Err(refusal) => Answer::refused(refusal, state),
     }
 }
 
@@ -423,14 +311,13 @@ pub fn take_n_part(s: &[u8], state: State, reader: Reader, n: usize) -> &[u8]
 {
     let answer = take_n(s, state, reader, n);
     let report = answer.report;
-    let block = report.block;
-    match block {
-        Block::Taken => {
+    match report.found {
+        Ok(Some(_)) => {
             let start = state.cursor;
             let end = answer.state.cursor;
             &s[start..end]
         }
-        Block::None => &s[0..0],
-        Block::Refused(refusal) => &s[0..0],
+        Ok(None) => &s[0..0],
+        Err(_) => &s[0..0],
     }
 }

@@ -1,9 +1,9 @@
 // The state of a cursor: a format word, the cursor, and the digits that each reader has counted; and when a state is refused.
-ghost use Rattle.std.specs.Prelude.{◌≡◌, ◌+◌, ◌^◌, ◌<◌, ◌&&◌, leb, length, if◌then◌else◌, nat_le};
-ghost use Rattle.reader.specs.State.{named_reader, reader_named, fresh_of, is_counted, count_of, count_sum, moved_to, counted_by};
+ghost use Rattle.std.specs.Prelude.{◌≡◌, ◌+◌, ◌^◌, ◌<◌, nat_le, ok_or};
+ghost use Rattle.reader.specs.State.{reader_named, fresh_of, is_counted, count_of, count_sum, moved_to, counted_by};
 ghost use Rattle.reader.specs.Code.TakeSums.{counts_digits, with_count};
-ghost use Rattle.reader.specs.Answer.{number_of, admission_number};
-ghost use Rattle.reader.specs.Calls.{consecutive_number, line_consecutive, place_refusal, refusal_with};
+ghost use Rattle.reader.specs.Answer.{number_of, refusal_in};
+ghost use Rattle.reader.specs.Calls.{line18, consecutive_number, line_consecutive, place_refusal, refusal_with};
 ghost use Rattle.reader.specs.ZeroSkip.{skip_refusal};
 ghost use Rattle.reader.specs.Block.{block_refusal};
 
@@ -11,7 +11,7 @@ use crate::rule::{Flags, has_any, is_consecutive_alone};
 use word::format_flags::Format;
 
 // Who reads: the three readers of digits, each with flags and a count of its own, and the reader of special values.
-#[derive(Clone, Copy)]
+#[derive(Clone, Copy, Debug, PartialEq, Eq)]
 pub enum Reader {
     Integer,
     Fraction,
@@ -19,24 +19,21 @@ pub enum Reader {
     Special,
 }
 
-// The reader that a number names.
-#[derive(Clone, Copy)]
-pub enum Named {
-    Known(Reader),
-    Unknown,
-}
+// A number that names no reader.
+#[derive(Clone, Copy, Debug, PartialEq, Eq)]
+pub struct UnknownReader(pub u8);
 
 // The digits counted by each reader: a type each, so that none stands for another.
-#[derive(Clone, Copy)]
+#[derive(Clone, Copy, Debug, PartialEq, Eq)]
 pub struct IntegerCount(pub usize);
 
-#[derive(Clone, Copy)]
+#[derive(Clone, Copy, Debug, PartialEq, Eq)]
 pub struct FractionCount(pub usize);
 
-#[derive(Clone, Copy)]
+#[derive(Clone, Copy, Debug, PartialEq, Eq)]
 pub struct ExponentCount(pub usize);
 
-#[derive(Clone, Copy)]
+#[derive(Clone, Copy, Debug, PartialEq, Eq)]
 pub struct State {
     pub format: Format,
     pub cursor: usize,
@@ -46,20 +43,14 @@ pub struct State {
 }
 
 // Why a call is refused.
-#[derive(Clone, Copy)]
+#[derive(Clone, Copy, Debug, PartialEq, Eq)]
 pub enum Refusal {
-    CursorPastEnd,
-    CountsExceedCursor,
-    SpecialReader,
-    ConsecutiveInteger,
-    ConsecutiveFraction,
-    ConsecutiveExponent,
-}
-
-#[derive(Clone, Copy)]
-pub enum Admission {
-    Admitted,
-    Refused(Refusal),
+    CursorPastEnd = 16,
+    CountsExceedCursor = 17,
+    SpecialReader = 18,
+    ConsecutiveInteger = 12,
+    ConsecutiveFraction = 13,
+    ConsecutiveExponent = 14,
 }
 
 impl Refusal {
@@ -67,26 +58,23 @@ impl Refusal {
     pub fn number(self) -> u32
         ensures { result ≡ number_of self }
     {
-        match self {
-            Refusal::CursorPastEnd => 16,
-            Refusal::CountsExceedCursor => 17,
-            Refusal::SpecialReader => 18,
-            Refusal::ConsecutiveInteger => 12,
-            Refusal::ConsecutiveFraction => 13,
-            Refusal::ConsecutiveExponent => 14,
-        }
+        self as u32
     }
 }
 
-pub fn reader_named(number: u8) -> Named
-    ensures { named_reader result ≡ reader_named number }
-{
-    match number {
-        0 => Named::Known(Reader::Integer),
-        1 => Named::Known(Reader::Fraction),
-        2 => Named::Known(Reader::Exponent),
-        3 => Named::Known(Reader::Special),
-        _ => Named::Unknown,
+impl TryFrom<u8> for Reader {
+    type Error = UnknownReader;
+
+    ghost try_from_gives = { λ number r. r ≡ ok_or (reader_named number) (record { 0 = number }) };
+
+    fn try_from(number: u8) -> Result<Self, UnknownReader> {
+        match number {
+            0 => Ok(Reader::Integer),
+            1 => Ok(Reader::Fraction),
+            2 => Ok(Reader::Exponent),
+            3 => Ok(Reader::Special),
+            _ => Err(UnknownReader(number)),
+        }
     }
 }
 
@@ -121,9 +109,7 @@ impl State {
 pub fn moved(state: State, cursor: usize) -> State
     ensures { result ≡ moved_to state cursor }
 {
-    let mut next = state;
-    next.cursor = cursor;
-    next
+    State { cursor, ..state }
 }
 
 // The same state with the reader's own count raised by one.
@@ -131,58 +117,49 @@ pub(crate) fn counted(state: State, reader: Reader) -> State
     requires { count_sum state + 1 < 2 ^ 64 }
     ensures { result ≡ counted_by state reader }
 {
-    let mut next = state;
     match reader {
-        Reader::Integer => {
-            let count = IntegerCount(state.integer.0 + 1);
-            next.integer = count;
-        }
-        Reader::Fraction => {
-            let count = FractionCount(state.fraction.0 + 1);
-            next.fraction = count;
-        }
-        Reader::Exponent => {
-            let count = ExponentCount(state.exponent.0 + 1);
-            next.exponent = count;
-        }
-        Reader::Special => {}
+        Reader::Integer => State {
+            integer: IntegerCount(state.integer.0 + 1),
+            ..state
+        },
+        Reader::Fraction => State {
+            fraction: FractionCount(state.fraction.0 + 1),
+            ..state
+        },
+        Reader::Exponent => State {
+            exponent: ExponentCount(state.exponent.0 + 1),
+            ..state
+        },
+        Reader::Special => state,
     }
-    next
 }
 
 // The same state with another count for the reader.
 pub fn with_count(state: State, reader: Reader, count: usize) -> State
     ensures { result ≡ with_count state reader count }
 {
-    let mut next = state;
     match reader {
-        Reader::Integer => {
-            let own = IntegerCount(count);
-            next.integer = own;
-        }
-        Reader::Fraction => {
-            let own = FractionCount(count);
-            next.fraction = own;
-        }
-        Reader::Exponent => {
-            let own = ExponentCount(count);
-            next.exponent = own;
-        }
-        Reader::Special => {}
+        Reader::Integer => State {
+            integer: IntegerCount(count),
+            ..state
+        },
+        Reader::Fraction => State {
+            fraction: FractionCount(count),
+            ..state
+        },
+        Reader::Exponent => State {
+            exponent: ExponentCount(count),
+            ..state
+        },
+        Reader::Special => state,
     }
-    next
 }
 
 // The special reader counts nothing.
 fn is_counted(reader: Reader) -> bool
     ensures { result ≡ is_counted reader }
 {
-    match reader {
-        Reader::Integer => true,
-        Reader::Fraction => true,
-        Reader::Exponent => true,
-        Reader::Special => false,
-    }
+    !matches!(reader, Reader::Special)
 }
 
 // Whether a reader counts the digits that it takes: with any flag, and if it counts at all.
@@ -208,83 +185,78 @@ fn counts_fit(state: State) -> bool
     state.exponent.0 <= cursor - integer - fraction
 }
 
-// One test of a call: its refusal where it fails, else what the tests after it say.
-fn line(holds: bool, refusal: Admission, rest: Admission) -> Admission
-    ensures { admission_number result ≡ (if holds then admission_number rest else admission_number refusal) }
-{
-    if holds { rest } else { refusal }
-}
-
-// Tests 16 and 17, and then what the tests after them say.
-fn after_place(s: &[u8], state: State, rest: Admission) -> Admission
-    ensures { admission_number result ≡ (if leb state.cursor (length s.now) then (if leb (count_sum state) state.cursor then admission_number rest else 17) else 16) }
-{
-    line(
-        state.cursor <= s.len(),
-        Admission::Refused(Refusal::CursorPastEnd),
-        line(
-            counts_fit(state),
-            Admission::Refused(Refusal::CountsExceedCursor),
-            rest,
-        ),
-    )
-}
-
 // Tests 16 and 17.
-pub(crate) fn admit_place(s: &[u8], state: State) -> Admission
-    ensures { admission_number result ≡ place_refusal s.now state }
+pub(crate) fn admit_place(s: &[u8], state: State) -> Result<(), Refusal>
+    ensures { refusal_in result ≡ place_refusal s.now state }
 {
-    after_place(s, state, Admission::Admitted)
+    if s.len() < state.cursor {
+        return Err(Refusal::CursorPastEnd);
+    }
+    if !counts_fit(state) {
+        return Err(Refusal::CountsExceedCursor);
+    }
+    Ok(())
+}
+
+// Test 18.
+fn admit_reader(reader: Reader) -> Result<(), Refusal>
+    ensures { refusal_in result ≡ line18 reader }
+{
+    if !is_counted(reader) {
+        return Err(Refusal::SpecialReader);
+    }
+    Ok(())
 }
 
 // The refusal of a reader whose consecutive flag stands alone. The special reader's cannot.
-fn consecutive_refusal(reader: Reader) -> Admission
-    ensures { admission_number result ≡ consecutive_number reader }
+fn consecutive_refusal(reader: Reader) -> Result<(), Refusal>
+    ensures { refusal_in result ≡ consecutive_number reader }
 {
     match reader {
-        Reader::Integer => Admission::Refused(Refusal::ConsecutiveInteger),
-        Reader::Fraction => Admission::Refused(Refusal::ConsecutiveFraction),
-        Reader::Exponent => Admission::Refused(Refusal::ConsecutiveExponent),
-        Reader::Special => Admission::Admitted,
+        Reader::Integer => Err(Refusal::ConsecutiveInteger),
+        Reader::Fraction => Err(Refusal::ConsecutiveFraction),
+        Reader::Exponent => Err(Refusal::ConsecutiveExponent),
+        Reader::Special => Ok(()),
     }
 }
 
 // Tests 12 to 14, of the reader's own flags.
-fn admit_flags(flags: Flags, reader: Reader) -> Admission
-    ensures { admission_number result ≡ line_consecutive flags reader }
+fn admit_flags(flags: Flags, reader: Reader) -> Result<(), Refusal>
+    ensures { refusal_in result ≡ line_consecutive flags reader }
 {
     let alone = is_consecutive_alone(flags);
-    line(!alone, consecutive_refusal(reader), Admission::Admitted)
+    if alone {
+        return consecutive_refusal(reader);
+    }
+    Ok(())
 }
 
 // Tests 16, 17, then 12 to 14.
-pub(crate) fn admit(s: &[u8], state: State, flags: Flags, reader: Reader) -> Admission
-    ensures { admission_number result ≡ refusal_with flags s.now state reader }
+pub(crate) fn admit(s: &[u8], state: State, flags: Flags, reader: Reader) -> Result<(), Refusal>
+    ensures { refusal_in result ≡ refusal_with flags s.now state reader }
 {
-    after_place(s, state, admit_flags(flags, reader))
-}
-
-// Test 18, and then what the tests after it say.
-fn after_reader(reader: Reader, rest: Admission) -> Admission
-    ensures { admission_number result ≡ (if is_counted reader then admission_number rest else 18) }
-{
-    line(
-        is_counted(reader),
-        Admission::Refused(Refusal::SpecialReader),
-        rest,
-    )
+    admit_place(s, state)?;
+    admit_flags(flags, reader)
 }
 
 // Tests 16, 17 and 18: those of a block take.
-pub(crate) fn admit_block(s: &[u8], state: State, reader: Reader) -> Admission
-    ensures { admission_number result ≡ block_refusal s.now state reader }
+pub(crate) fn admit_block(s: &[u8], state: State, reader: Reader) -> Result<(), Refusal>
+    ensures { refusal_in result ≡ block_refusal s.now state reader }
 {
-    after_place(s, state, after_reader(reader, Admission::Admitted))
+    admit_place(s, state)?;
+    admit_reader(reader)
 }
 
 // Tests 16, 17, 18, then 12 to 14: those of a zero skip.
-pub(crate) fn admit_skip(s: &[u8], state: State, flags: Flags, reader: Reader) -> Admission
-    ensures { admission_number result ≡ skip_refusal flags s.now state reader }
+pub(crate) fn admit_skip(
+    s: &[u8],
+    state: State,
+    flags: Flags,
+    reader: Reader,
+) -> Result<(), Refusal>
+    ensures { refusal_in result ≡ skip_refusal flags s.now state reader }
 {
-    after_place(s, state, after_reader(reader, admit_flags(flags, reader)))
+    admit_place(s, state)?;
+    admit_reader(reader)?;
+    admit_flags(flags, reader)
 }

@@ -7,92 +7,81 @@ use Prim.Native.Nat.{ℕ, suc, ◌≤◌}
 use native.Mathlib.Omega.{arith}
 use lib.ListN.{length, take, drop, take-append-drop, length-take, length-append}
 use lib.Seq.{take-take}
+use Rattle.std.specs.Prelude.{Option, Some, None, Result, Ok, Err, IfErr, is_ok}
 use Rattle.script.specs.declared.run.Stage.{Stage}
 use Rattle.script.specs.declared.stream.Start.{Start}
 use Rattle.script.specs.declared.stream.Next.{Next}
 use Rattle.script.specs.declared.stream.Next.TheVariants as next
 use Rattle.script.specs.declared.stream.Turn.{Turn}
-use Rattle.script.specs.declared.stream.Arrival.{Arrival}
-use Rattle.script.specs.declared.stream.Arrival.TheVariants as arrival
-use Rattle.script.specs.declared.stream.Status.{Status}
-use Rattle.script.specs.declared.stream.Status.TheVariants as status
+use Rattle.script.specs.declared.stream.StreamError.{StreamError}
+use Rattle.script.specs.declared.stream.StreamError.TheVariants.{CannotRead, CannotWrite}
 use Rattle.script.specs.Run.{Run, gathering, stopped, run_in}
 use Rattle.script.specs.Script.{output_from, output_of}
-use Rattle.script.specs.Stream.{Prints, Leads, Turns, first_start, Reads, after_read, FollowsBy, Follows, piece_behind, History, begins, goes_on, LastTurn, last, joined, Ran, RanTo}
+use Rattle.script.specs.Stream.{Prints, Leads, Turns, first_start, Reads, behind_read, FollowsBy, Follows, piece_behind, History, begins, goes_on, LastTurn, last, joined, Ran, RanTo, Ends}
 use Rattle.script.proofs.answer.Prefixes.{drop_all}
 use Rattle.script.proofs.answer.Records.{false_no, stopped_prints_nothing}
 use Rattle.script.proofs.stream.Pieces.{came_behind}
 
-start_of : Status → Start
-start_of (status.Running start) = start
-start_of status.Over = first_start
-start_of status.CannotRead = first_start
-start_of status.CannotWrite = first_start
+start_of : Result (Option Start) StreamError → Start
+start_of (Ok (Some start)) = start
+start_of (Ok None) = first_start
+start_of (Err error) = first_start
 
--- a number for each status, by which they are told apart
-code_of : Status → ℕ
-code_of (status.Running start) = 0
-code_of status.Over = 1
-code_of status.CannotRead = 2
-code_of status.CannotWrite = 3
+-- a number for each way that a run goes on, by which they are told apart
+code_of : Result (Option Start) StreamError → ℕ
+code_of (Ok (Some start)) = 0
+code_of (Ok None) = 1
+code_of (Err CannotRead) = 2
+code_of (Err CannotWrite) = 3
 
-running_same : (s t : Start) → status.Running s ≡ status.Running t → s ≡ t
+told_apart : {a b : Result (Option Start) StreamError} → a ≡ b → (code_of a ≡ code_of b → ⊥) → ⊥
+told_apart e differ = differ (ap code_of e)
+
+on_same : (s t : Start) → ◌≡◌ {A = Result (Option Start) StreamError} (Ok (Some s)) (Ok (Some t)) → s ≡ t
 unfolding start_of
-running_same s t e = ap start_of e
+on_same s t e = ap start_of e
 
-not_over : (s : Start) → status.Running s ≡ status.Over → ⊥
+not_over : (s : Start) → ◌≡◌ {A = Result (Option Start) StreamError} (Ok (Some s)) (Ok None) → ⊥
 unfolding code_of
-not_over s e = let no : ◌≡◌ {A = ℕ} 0 1 = ap code_of e in omega (arith, no)
+not_over s e = told_apart e (λ no. omega (arith, no))
 
-not_unread : (s : Start) → status.Running s ≡ status.CannotRead → ⊥
+not_failed : (came : Option Start) (error : StreamError) → ◌≡◌ {A = Result (Option Start) StreamError} (Ok came) (Err error) → ⊥
+not_failed came error e = let no : true ≡ false = ap is_ok e in absurd (false_no (sym no))
+
+read_or_write : ◌≡◌ {A = Result (Option Start) StreamError} (Err CannotRead) (Err CannotWrite) → ⊥
 unfolding code_of
-not_unread s e = let no : ◌≡◌ {A = ℕ} 0 2 = ap code_of e in omega (arith, no)
-
-not_unwritten : (s : Start) → status.Running s ≡ status.CannotWrite → ⊥
-unfolding code_of
-not_unwritten s e = let no : ◌≡◌ {A = ℕ} 0 3 = ap code_of e in omega (arith, no)
-
-over_or_unread : status.Over ≡ status.CannotRead → ⊥
-unfolding code_of
-over_or_unread e = let no : ◌≡◌ {A = ℕ} 1 2 = ap code_of e in omega (arith, no)
-
-over_or_unwritten : status.Over ≡ status.CannotWrite → ⊥
-unfolding code_of
-over_or_unwritten e = let no : ◌≡◌ {A = ℕ} 1 3 = ap code_of e in omega (arith, no)
-
-unread_or_unwritten : status.CannotRead ≡ status.CannotWrite → ⊥
-unfolding code_of
-unread_or_unwritten e = let no : ◌≡◌ {A = ℕ} 2 3 = ap code_of e in omega (arith, no)
-
--- a run goes on only where its lines were written
-written : (done : Bool) (turn : Turn) (ended : Bool) (buffer buffer' : List ℕ) (start : Start) → Follows done turn ended buffer buffer' (status.Running start)
-    → Follows true turn ended buffer buffer' (status.Running start)
-written true turn ended buffer buffer' start follows = follows
-written false turn ended buffer buffer' start follows = absurd (not_unwritten start follows.1)
+read_or_write e = told_apart e (λ no. omega (arith, no))
 
 -- a run is over, or breaks off at a read, only where its last turn says so
-over_read : (came : Arrival) (turn : Turn) → status.Over ≡ after_read turn came → ⊥
-over_read (arrival.More filled) turn e = not_over _ (sym e)
-over_read arrival.End turn e = not_over _ (sym e)
-over_read arrival.Failed turn e = over_or_unread e
+over_read : (came : Result (Option ℕ) StreamError) (turn : Turn) → Ok None ≡ behind_read turn came → ⊥
+over_read (Ok came) turn e = not_over _ (sym e)
+over_read (Err error) turn e = not_failed _ error e
 
-over_by : (n : Next) (turn : Turn) (ended : Bool) (buffer buffer' : List ℕ) → FollowsBy n turn ended buffer buffer' status.Over → n ≡ next.Over
+over_by : (n : Next) (turn : Turn) (ended : Bool) (buffer buffer' : List ℕ) → FollowsBy n turn ended buffer buffer' (Ok None) → n ≡ next.Over
 over_by next.Over turn ended buffer buffer' follows = refl
 over_by next.Again turn ended buffer buffer' follows = absurd (not_over _ (sym follows.1))
 over_by next.Read turn ended buffer buffer' follows = absurd (over_read follows.came turn follows.tells)
 
-over_said : (done : Bool) (turn : Turn) (ended : Bool) (buffer buffer' : List ℕ) → Follows done turn ended buffer buffer' status.Over → turn.next ≡ next.Over
-over_said true turn ended buffer buffer' follows = over_by turn.next turn ended buffer buffer' follows
-over_said false turn ended buffer buffer' follows = absurd (over_or_unwritten follows.1)
+over_said : (written : Result (Unit {0}) StreamError) (turn : Turn) (ended : Bool) (buffer buffer' : List ℕ) → Follows written turn ended buffer buffer' (Ok None)
+    → turn.next ≡ next.Over
+over_said (Ok done) turn ended buffer buffer' follows = over_by turn.next turn ended buffer buffer' follows
+over_said (Err error) turn ended buffer buffer' follows = absurd (not_failed _ error follows.1)
 
-unread_by : (n : Next) (turn : Turn) (ended : Bool) (buffer buffer' : List ℕ) → FollowsBy n turn ended buffer buffer' status.CannotRead → n ≡ next.Read
-unread_by next.Over turn ended buffer buffer' follows = absurd (over_or_unread (sym follows.1))
-unread_by next.Again turn ended buffer buffer' follows = absurd (not_unread _ (sym follows.1))
+unread_by : (n : Next) (turn : Turn) (ended : Bool) (buffer buffer' : List ℕ) → FollowsBy n turn ended buffer buffer' (Err CannotRead) → n ≡ next.Read
+unread_by next.Over turn ended buffer buffer' follows = absurd (not_failed _ _ (sym follows.1))
+unread_by next.Again turn ended buffer buffer' follows = absurd (not_failed _ _ (sym follows.1))
 unread_by next.Read turn ended buffer buffer' follows = refl
 
-unread_said : (done : Bool) (turn : Turn) (ended : Bool) (buffer buffer' : List ℕ) → Follows done turn ended buffer buffer' status.CannotRead → turn.next ≡ next.Read
-unread_said true turn ended buffer buffer' follows = unread_by turn.next turn ended buffer buffer' follows
-unread_said false turn ended buffer buffer' follows = absurd (unread_or_unwritten follows.1)
+unread_said : (written : Result (Unit {0}) StreamError) (turn : Turn) (ended : Bool) (buffer buffer' : List ℕ) → IfErr written (λ error. error ≡ CannotWrite)
+    → Follows written turn ended buffer buffer' (Err CannotRead) → turn.next ≡ next.Read
+unread_said (Ok done) turn ended buffer buffer' fails follows = unread_by turn.next turn ended buffer buffer' follows
+unread_said (Err error) turn ended buffer buffer' fails follows = absurd (read_or_write (follows.1 ∙ ap (λ (x : StreamError). Err x) fails))
+
+-- a run goes on only where its lines were written
+on_written : (written : Result (Unit {0}) StreamError) (turn : Turn) (ended : Bool) (buffer buffer' : List ℕ) (start : Start)
+    → Follows written turn ended buffer buffer' (Ok (Some start)) → FollowsBy turn.next turn ended buffer buffer' (Ok (Some start))
+on_written (Ok done) turn ended buffer buffer' start follows = follows
+on_written (Err error) turn ended buffer buffer' start follows = absurd (not_failed _ error follows.1)
 
 -- What a run that goes on begins its next turn with: the stage and the bytes of the last one, and bytes behind them; where the input had
 -- ended, none.
@@ -103,11 +92,11 @@ record Continues (turn : Turn) (ended : Bool) (buffer buffer' : List ℕ) (start
   same : take turn.kept buffer' ≡ take turn.kept buffer
   stays : ended ≡ true → (start.filled ≡ turn.kept) × (start.ended ≡ true)
 
-continues_read : (came : Arrival) (turn : Turn) (ended : Bool) (buffer buffer' : List ℕ) (start : Start) → ended ≡ false → Reads turn.kept buffer buffer' came
-    → status.Running start ≡ after_read turn came → Continues turn ended buffer buffer' start
-continues_read (arrival.More filled) turn ended buffer buffer' start more reads e =
-    let s : start ≡ record { stage = turn.stage; filled = filled; ended = false } = running_same start _ e in
-    let behind = came_behind turn.kept filled buffer' reads.got reads.tells in
+continues_read : (came : Result (Option ℕ) StreamError) (turn : Turn) (ended : Bool) (buffer buffer' : List ℕ) (start : Start) → ended ≡ false
+    → Reads turn.kept buffer buffer' came → Ok (Some start) ≡ behind_read turn came → Continues turn ended buffer buffer' start
+continues_read (Ok (Some filled)) turn ended buffer buffer' start more reads e =
+    let s : start ≡ record { stage = turn.stage; filled = filled; ended = false } = on_same start _ e in
+    let behind = came_behind turn.kept filled buffer' reads.got reads.fits reads.tells in
     let f : start.filled ≡ filled = ap (λ (x : Start). x.filled) s in
     record {
       stage = ap (λ (x : Start). x.stage) s;
@@ -116,8 +105,8 @@ continues_read (arrival.More filled) turn ended buffer buffer' start more reads 
       same = reads.same;
       stays = λ closed. absurd (false_no (sym more ∙ closed));
     }
-continues_read arrival.End turn ended buffer buffer' start more reads e =
-    let s : start ≡ record { stage = turn.stage; filled = turn.kept; ended = true } = running_same start _ e in
+continues_read (Ok None) turn ended buffer buffer' start more reads e =
+    let s : start ≡ record { stage = turn.stage; filled = turn.kept; ended = true } = on_same start _ e in
     let f : start.filled ≡ turn.kept = ap (λ (x : Start). x.filled) s in
     record {
       stage = ap (λ (x : Start). x.stage) s;
@@ -126,13 +115,13 @@ continues_read arrival.End turn ended buffer buffer' start more reads e =
       same = reads.same;
       stays = λ closed. absurd (false_no (sym more ∙ closed));
     }
-continues_read arrival.Failed turn ended buffer buffer' start more reads e = absurd (not_unread start e)
+continues_read (Err error) turn ended buffer buffer' start more reads e = absurd (not_failed _ error e)
 
 continues : (n : Next) (turn : Turn) (ended : Bool) (room : ℕ) (kept : List ℕ) (run : Run) (buffer buffer' : List ℕ) (start : Start)
-    → Leads turn.stage room ended kept run n → FollowsBy n turn ended buffer buffer' (status.Running start) → Continues turn ended buffer buffer' start
+    → Leads turn.stage room ended kept run n → FollowsBy n turn ended buffer buffer' (Ok (Some start)) → Continues turn ended buffer buffer' start
 continues next.Over turn ended room kept run buffer buffer' start leads follows = absurd (not_over start follows.1)
 continues next.Again turn ended room kept run buffer buffer' start leads follows =
-    let s : start ≡ record { stage = turn.stage; filled = turn.kept; ended = ended } = running_same start _ follows.1 in
+    let s : start ≡ record { stage = turn.stage; filled = turn.kept; ended = ended } = on_same start _ follows.1 in
     let f : start.filled ≡ turn.kept = ap (λ (x : Start). x.filled) s in
     record {
       stage = ap (λ (x : Start). x.stage) s;
@@ -214,18 +203,18 @@ pub ran_starts : (text buffer : List ℕ) (start : Start) → start ≡ first_st
 ran_starts text buffer start e = rw e (omega arith, record { pieces = []; lines = []; history = begins; turns = refl })
 
 module _ {count : ℕ} {start : Start} {text text' buffer buffer' out : List ℕ} {turn : Turn} (ran : Ran count start text buffer)
-    (turns : Turns text buffer start text' buffer' out turn) (done : Bool) (buffer'' : List ℕ) (answer : Status)
-    (follows : Follows done turn start.ended buffer' buffer'' answer)
+    (turns : Turns text buffer start text' buffer' out turn) (written : Result (Unit {0}) StreamError) (buffer'' : List ℕ) (answer : Result (Option Start) StreamError)
+    (follows : Follows written turn start.ended buffer' buffer'' answer)
   where
-    goes : (start' : Start) → answer ≡ status.Running start' → Follows true turn start.ended buffer' buffer'' (status.Running start')
-    goes start' e = written done turn start.ended buffer' buffer'' start' (rw e at follows)
+    goes : (start' : Start) → answer ≡ Ok (Some start') → Follows (Ok tt) turn start.ended buffer' buffer'' (Ok (Some start'))
+    goes start' e = on_written written turn start.ended buffer' buffer'' start' (rw e at follows)
 
-    pub ran_within : (start' : Start) → answer ≡ status.Running start' → length buffer'' ≡ length buffer' → start'.filled ≤ length buffer''
+    pub ran_within : (start' : Start) → answer ≡ Ok (Some start') → length buffer'' ≡ length buffer' → start'.filled ≤ length buffer''
     ran_within start' e size =
         let on = continues turn.next turn start.ended _ _ _ buffer' buffer'' start' turns.leads (goes start' e) in
         on.within (omega (arith, turns.kept, size))
 
-    pub ran_goes_on : {start' : Start} {count' : ℕ} → answer ≡ status.Running start' → count' ≡ suc count → Ran count' start' text' buffer''
+    pub ran_goes_on : {start' : Start} {count' : ℕ} → answer ≡ Ok (Some start') → count' ≡ suc count → Ran count' start' text' buffer''
     ran_goes_on {start' = start'} e more =
         record {
           pieces = ran.pieces ++ (piece_behind turn start' buffer'' ∷ []);
@@ -237,14 +226,9 @@ module _ {count : ℕ} {start : Start} {text text' buffer buffer' out : List ℕ
     ran_to : {how : Next → Type 0} → how turn.next → RanTo text' out how
     ran_to ends = record { pieces = ran.pieces; lines = _; ended = _; turn = turn; last = last ran.history turns; ends = ends }
 
-    pub ran_over : answer ≡ status.Over → RanTo text' out (λ n. n ≡ next.Over)
-    ran_over e = ran_to (over_said done turn start.ended buffer' buffer'' (rw e at follows))
+    pub ran_over : answer ≡ Ok None → RanTo text' out (λ n. n ≡ next.Over)
+    ran_over e = ran_to (over_said written turn start.ended buffer' buffer'' (rw e at follows))
 
-    pub ran_unread : answer ≡ status.CannotRead → RanTo text' out (λ n. n ≡ next.Read)
-    ran_unread e = ran_to (unread_said done turn start.ended buffer' buffer'' (rw e at follows))
-
-    pub ran_unwritten : RanTo text' out (λ n. Unit {0})
-    ran_unwritten = ran_to tt
-
-pub ran_as : {count count' : ℕ} {start : Start} {text buffer : List ℕ} → count ≡ count' → Ran count start text buffer → Ran count' start text buffer
-ran_as e ran = rw e at ran
+    pub ran_failed : IfErr written (λ error. error ≡ CannotWrite) → (error : StreamError) → answer ≡ Err error → Ends text' buffer'' out (Err error)
+    ran_failed fails CannotRead e = ran_to (unread_said written turn start.ended buffer' buffer'' fails (rw e at follows))
+    ran_failed fails CannotWrite e = ran_to tt

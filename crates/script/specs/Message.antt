@@ -1,7 +1,7 @@
 -- What is told on standard error where the system fails the program, in ASCII. Assumes nothing.
 use Rattle.std.specs.Prelude.{ℕ, List, [], ◌∷◌}
-use Rattle.script.specs.declared.stream.Status.{Status}
-use Rattle.script.specs.declared.stream.Status.TheVariants as status
+use Rattle.script.specs.declared.stream.StreamError.{StreamError}
+use Rattle.script.specs.declared.stream.StreamError.TheVariants.{CannotRead, CannotWrite}
 
 -- "script: cannot read standard input" and a newline
 abbrev pub cannot_read : List ℕ
@@ -15,11 +15,6 @@ cannot_write =
     115 ∷ 99 ∷ 114 ∷ 105 ∷ 112 ∷ 116 ∷ 58 ∷ 32 ∷ 99 ∷ 97 ∷ 110 ∷ 110 ∷ 111 ∷ 116 ∷ 32 ∷ 119 ∷ 114 ∷ 105 ∷ 116 ∷ 101 ∷ 32 ∷ 115 ∷
     116 ∷ 97 ∷ 110 ∷ 100 ∷ 97 ∷ 114 ∷ 100 ∷ 32 ∷ 111 ∷ 117 ∷ 116 ∷ 112 ∷ 117 ∷ 116 ∷ 10 ∷ []
 
-abbrev pub longest_message : ℕ
-longest_message = 37
-
-abbrev pub message_of : Status → List ℕ
-message_of (status.Running start) = []
-message_of status.Over = []
-message_of status.CannotRead = cannot_read
-message_of status.CannotWrite = cannot_write
+abbrev pub message_of : StreamError → List ℕ
+message_of CannotRead = cannot_read
+message_of CannotWrite = cannot_write

@@ -1,21 +1,23 @@
 -- The records of a call script (document 01, "Call script"): one byte of kind, then a fixed body. Assumes nothing.
-use Rattle.std.specs.Prelude.{ℕ, ◌+◌, ◌*◌, cond, List, [], ◌∷◌, eqb, ltb, length, take, drop}
+use Rattle.std.specs.Prelude.{ℕ, ◌+◌, ◌*◌, cond, List, [], ◌∷◌, ◌==◌, nat_lt, length, take, drop, Result, Ok, Err}
 use Rattle.script.specs.declared.record.Kind.{Kind}
 use Rattle.script.specs.declared.record.Kind.TheVariants as kind
 use Rattle.script.specs.declared.record.Call.TheVariants as call
 use Rattle.script.specs.declared.record.Record.{Record}
 use Rattle.script.specs.declared.record.Record.TheVariants as record'
+use Rattle.script.specs.declared.refusal.Refusal.{Refusal}
+use Rattle.script.specs.declared.refusal.Refusal.TheVariants as refusal
 
 -- "0: one text byte. 1: open. 2 peek, 3 take, 5 zero skip. 4 read. 6 block."
-unfoldable pub kind_of : ℕ → Kind
+unfoldable pub kind_of : ℕ → Result Kind Refusal
 kind_of n =
-    cond (eqb n 0) kind.Text
-    (cond (eqb n 1) kind.Open
-    (cond (eqb n 2) kind.Peek
-    (cond (eqb n 3) kind.Take
-    (cond (eqb n 4) kind.Read
-    (cond (eqb n 5) kind.ZeroSkip
-    (cond (eqb n 6) kind.Block kind.Unknown))))))
+    cond (n == 0) (Ok kind.Text)
+    (cond (n == 1) (Ok kind.Open)
+    (cond (n == 2) (Ok kind.Peek)
+    (cond (n == 3) (Ok kind.Take)
+    (cond (n == 4) (Ok kind.Read)
+    (cond (n == 5) (Ok kind.ZeroSkip)
+    (cond (n == 6) (Ok kind.Block) (Err refusal.Unknown)))))))
 
 -- how many bytes follow the kind: one text byte; 16 bytes of a word; a reader byte; reader, value; reader, 4-byte count
 abbrev pub body_length : Kind → ℕ
@@ -26,7 +28,11 @@ body_length kind.Take = 1
 body_length kind.Read = 2
 body_length kind.ZeroSkip = 1
 body_length kind.Block = 5
-body_length kind.Unknown = 0
+
+-- nothing follows what is no kind
+abbrev pub size_behind : Result Kind Refusal → ℕ
+size_behind (Ok k) = body_length k
+size_behind (Err refused) = 0
 
 abbrev pub longest_body : ℕ
 longest_body = body_length kind.Open
@@ -49,11 +55,11 @@ whole_record kind.Take body = record'.Call (number_at body 0 1) call.Take
 whole_record kind.Read body = record'.Call (number_at body 0 1) (call.Read (number_at body 1 1))
 whole_record kind.ZeroSkip body = record'.Call (number_at body 0 1) call.ZeroSkip
 whole_record kind.Block body = record'.Call (number_at body 0 1) (call.Block (number_at body 1 4))
-whole_record kind.Unknown body = record'.Unknown
 
 -- The record behind a kind, from all that follows of the input: the kind is tested first, then the length.
-abbrev pub record_behind : Kind → List ℕ → Record
-record_behind k rest = cond (ltb (length rest) (body_length k)) record'.CutShort (whole_record k rest)
+abbrev pub record_behind : Result Kind Refusal → List ℕ → Result Record Refusal
+record_behind (Err refused) rest = Err refused
+record_behind (Ok k) rest = cond (nat_lt (length rest) (body_length k)) (Err refusal.CutShort) (Ok (whole_record k rest))
 
-unfoldable pub record_at : ℕ → List ℕ → Record
+unfoldable pub record_at : ℕ → List ℕ → Result Record Refusal
 record_at n rest = record_behind (kind_of n) rest

@@ -1,8 +1,9 @@
 -- The line that a call prints (document 01, "Call script"), from the answer that the reader's contracts promise. Assumes nothing.
-use Rattle.std.specs.Prelude.{ℕ, cond, List, [], ◌∷◌, eqb}
-use Rattle.std.proofs.Math.Option.{Option, some, none}
+use Rattle.std.specs.Prelude.{ℕ, cond, List, [], ◌∷◌, ◌==◌, Option, Some, None, Result}
 use Rattle.reader.specs.declared.state.Reader.{Reader}
-use Rattle.reader.specs.Answer.{Outcome, SkipOutcome, BlockOutcome}
+use Rattle.reader.specs.declared.state.Refusal.{Refusal}
+use Rattle.reader.specs.declared.answer.Read.{Read}
+use Rattle.reader.specs.Answer.{refusal_in, answer_in, found_in, read_byte, Outcome, SkipOutcome, BlockOutcome}
 use Rattle.reader.specs.History.{Answered, peek_answered, take_answered, read_answered, skip_answered, block_answered}
 use Rattle.reader.specs.History as history
 use Rattle.script.specs.declared.record.Call.{Call}
@@ -17,23 +18,36 @@ use Rattle.script.specs.Line.{line_of}
 abbrev pub call_by : Call → Reader → history.Call
 call_by call.Peek r = history.peek_by r
 call_by call.Take r = history.take_by r
-call_by (call.Read value) r = history.read_if_by r (λ b. eqb b value)
+call_by (call.Read value) r = history.read_if_by r (λ b. b == value)
 call_by call.ZeroSkip r = history.zero_skip_by r
 call_by (call.Block n) r = history.block_by r n
 
 -- "The byte is decimal; it is `-` at the end, for a declined read and for a block, and the number of zeros for kind 5. A block
 -- answering none prints `6 none`." Document 02 keeps it so of a read: "The script still prints `-` for both."
 abbrev pub number_shown : Option ℕ → Shown
-number_shown none = shown.Dash
-number_shown (some n) = shown.Number n
+number_shown None = shown.Dash
+number_shown (Some n) = shown.Number n
 
 abbrev pub block_shown : Option ℕ → Shown
-block_shown none = shown.NoBlock
-block_shown (some n) = shown.Dash
+block_shown None = shown.NoBlock
+block_shown (Some n) = shown.Dash
 
 -- a refused call shows its number
 abbrev pub or_refused : ℕ → Shown → Shown
-or_refused number answer = cond (eqb number 0) answer (shown.Refused number)
+or_refused number answer = cond (number == 0) answer (shown.Refused number)
+
+-- by what a call found
+abbrev pub seen_shown : Result (Option ℕ) Refusal → Shown
+seen_shown found = or_refused (refusal_in found) (number_shown (found_in found))
+
+abbrev pub read_shown : Result Read Refusal → Shown
+read_shown found = or_refused (refusal_in found) (number_shown (read_byte found))
+
+abbrev pub zeros_shown : Result ℕ Refusal → Shown
+zeros_shown found = or_refused (refusal_in found) (number_shown (answer_in found))
+
+abbrev pub taken_shown : Result (Option ℕ) Refusal → Shown
+taken_shown found = or_refused (refusal_in found) (block_shown (found_in found))
 
 unfoldable pub outcome_reply : Outcome → Reply
 outcome_reply o =

@@ -1,6 +1,5 @@
 -- A run of a call script, and what it answers to one record (document 01, "Call script"). Assumes nothing.
-use Rattle.std.specs.Prelude.{ℕ, ◌≡◌, Bool, true, false, cond, List, [], ◌∷◌, ◌++◌, ltb, length, take}
-use Rattle.std.proofs.Math.Option.{Option, some, none}
+use Rattle.std.specs.Prelude.{ℕ, ◌≡◌, Bool, true, false, cond, List, [], ◌∷◌, ◌++◌, nat_lt, length, take, Result, Ok, Err, Option, Some, None}
 use Rattle.reader.specs.declared.state.Reader.{Reader}
 use Rattle.reader.specs.declared.state.State.{State}
 use Rattle.reader.specs.State.{reader_named}
@@ -61,12 +60,12 @@ abbrev pub most_text : ℕ
 most_text = 4096
 
 abbrev pub add_text : List ℕ → ℕ → Response
-add_text text b = cond (ltb (length text) most_text) (silent (gathering (text ++ (b ∷ [])))) (stops refusal.TextFull)
+add_text text b = cond (nat_lt (length text) most_text) (silent (gathering (text ++ (b ∷ [])))) (stops refusal.TextFull)
 
 -- "Open prints `1` and the answer." Only an open that gives a state is accepted.
 abbrev pub after_open : List ℕ → Option State → Run
-after_open text none = gathering text
-after_open text (some st) = opened text st
+after_open text None = gathering text
+after_open text (Some st) = opened text st
 
 unfoldable pub open_text : List ℕ → ℕ → ℕ → Response
 open_text text lo hi = record { line = line_of (decimal 1) (decimal (open_of lo hi).refusal ∷ []); run = after_open text (open_of lo hi).state }
@@ -78,34 +77,37 @@ answer_call text call reply = record { line = reply_line call reply; run = opene
 unfoldable pub call_response : List ℕ → State → Reader → Call → Response
 call_response text st r call = answer_call text call (reply_of (answer_to reading_on text st (call_by call r)))
 
+-- a byte above 3 names no reader
+abbrev pub named : Option Reader → Result Reader Refusal
+named None = Err refusal.Unknown
+named (Some r) = Ok r
+
 -- a reader byte above 3 is refused before the turn is asked
 abbrev pub gathering_call : Option Reader → Response
-gathering_call none = stops refusal.Unknown
-gathering_call (some r) = stops refusal.OutOfTurn
+gathering_call None = stops refusal.Unknown
+gathering_call (Some r) = stops refusal.OutOfTurn
 
 abbrev pub opened_call : List ℕ → State → Call → Option Reader → Response
-opened_call text st call none = stops refusal.Unknown
-opened_call text st call (some r) = call_response text st r call
+opened_call text st call None = stops refusal.Unknown
+opened_call text st call (Some r) = call_response text st r call
 
 -- "Script order: kind, length, reader byte, turn, full."
 abbrev pub gathering_response : List ℕ → Record → Response
-gathering_response text record'.Unknown = stops refusal.Unknown
-gathering_response text record'.CutShort = stops refusal.CutShort
 gathering_response text (record'.Call by call) = gathering_call (reader_named by)
 gathering_response text (record'.Text b) = add_text text b
 gathering_response text (record'.Open lo hi) = open_text text lo hi
 
 abbrev pub opened_response : List ℕ → State → Record → Response
-opened_response text st record'.Unknown = stops refusal.Unknown
-opened_response text st record'.CutShort = stops refusal.CutShort
 opened_response text st (record'.Call by call) = opened_call text st call (reader_named by)
 opened_response text st (record'.Text b) = stops refusal.OutOfTurn
 opened_response text st (record'.Open lo hi) = stops refusal.OutOfTurn
 
 -- nothing answers what stands behind a stop
-abbrev pub respond : Run → Record → Response
-respond (gathering text) asked = gathering_response text asked
-respond (opened text st) asked = opened_response text st asked
+abbrev pub respond : Run → Result Record Refusal → Response
+respond (gathering text) (Ok asked) = gathering_response text asked
+respond (gathering text) (Err refused) = stops refused
+respond (opened text st) (Ok asked) = opened_response text st asked
+respond (opened text st) (Err refused) = stops refused
 respond stopped asked = silent stopped
 
 -- What the code answered is this response: its line is written behind the `at` bytes that were written, and the run that goes on is as
@@ -113,3 +115,8 @@ respond stopped asked = silent stopped
 pub record Responds (response : Response) (buffer before : List ℕ) (at : ℕ) (after : List ℕ) (answer : Response') : Type 0 where
   pub wrote : Wrote before at response.line after answer.end
   pub goes_on : run_in buffer answer.stage ≡ response.run
+
+-- the same of code that may refuse: nothing is written then, and the response is that the run stops
+abbrev pub Allows : Response → List ℕ → List ℕ → ℕ → List ℕ → Result Response' Refusal → Type 0
+Allows response buffer before at after (Ok answer) = Responds response buffer before at after answer
+Allows response buffer before at after (Err refused) = (after ≡ before) × (response ≡ stops refused)

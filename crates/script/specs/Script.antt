@@ -1,6 +1,6 @@
 -- What a whole call script prints: input bytes to output bytes (document 01, "Call script"). Assumes nothing.
-use Rattle.std.specs.Prelude.{ℕ, zero, suc, ◌-◌, ◌≤◌, ◌≡◌, Bool, true, false, not, ◌&&◌, ◌||◌, leb, length, take, drop, List, [], ◌∷◌, ◌++◌}
-use Rattle.script.specs.Record.{kind_of, body_length, record_at}
+use Rattle.std.specs.Prelude.{ℕ, zero, suc, ◌-◌, ◌≤◌, ◌≡◌, Bool, true, false, not, ◌&&◌, ◌||◌, nat_le, length, take, drop, List, [], ◌∷◌, ◌++◌}
+use Rattle.script.specs.Record.{kind_of, size_behind, record_at}
 use Rattle.script.specs.declared.run.Stage.{Stage}
 use Rattle.script.specs.declared.answer.Progress.{Progress}
 use Rattle.script.specs.Line.{longest_line}
@@ -16,7 +16,7 @@ abbrev pub output_from : List ℕ → ℕ → Run → List ℕ
 output_from [] skipped run = []
 output_from (b ∷ rest) (suc skipped) run = output_from rest skipped run
 output_from (kind ∷ rest) zero run =
-    (response_at run kind rest).line ++ output_from rest (body_length (kind_of kind)) (response_at run kind rest).run
+    (response_at run kind rest).line ++ output_from rest (size_behind (kind_of kind)) (response_at run kind rest).run
 
 -- a run begins with no text
 unfoldable pub output_of : List ℕ → List ℕ
@@ -34,12 +34,12 @@ pub record Answers (text : List ℕ) (begun : Stage) (input : List ℕ) (ended :
 -- The next record is answered at once where the run goes on, there is room for the longest line, and the body is there, or no more of
 -- it comes.
 unfoldable pub is_due : Stage → ℕ → Bool → ℕ → ℕ → Bool
-is_due stage room ended size there = not (is_stopped stage) && (leb longest_line room && (ended || leb size there))
+is_due stage room ended size there = not (is_stopped stage) && (nat_le longest_line room && (ended || nat_le size there))
 
 -- the same of what is left of an input; where nothing is left, nothing is due
 abbrev pub next_is_due : Stage → ℕ → Bool → List ℕ → Bool
 next_is_due stage room ended [] = false
-next_is_due stage room ended (kind ∷ body) = is_due stage room ended (body_length (kind_of kind)) (length body)
+next_is_due stage room ended (kind ∷ body) = is_due stage room ended (size_behind (kind_of kind)) (length body)
 
 -- no record that is due is left
 abbrev pub GoesAsFar : List ℕ → Bool → ℕ → Progress → Type 0

@@ -1,16 +1,13 @@
 -- Turn after turn over an input that arrives in pieces: what the functions of src/stream.rt promise. Assumes nothing.
-use Rattle.std.specs.Prelude.{ℕ, ◌+◌, ◌-◌, ◌≤◌, ◌<◌, ◌≡◌, Bool, true, false, cond, List, [], ◌∷◌, ◌++◌, eqb, ltb, ℤ, pos, negsuc, length, take, drop}
-use Rattle.io.specs.Counts.{clamp_len}
+use Rattle.std.specs.Prelude.{ℕ, ◌+◌, ◌-◌, ◌≤◌, ◌<◌, ◌≡◌, Bool, true, false, cond, List, [], ◌∷◌, ◌++◌, ◌==◌, nat_lt, length, take, drop, Option, Some, None, Result, Ok, Err, IfOk, IfErr}
 use Rattle.script.specs.declared.run.Stage.{Stage}
 use Rattle.script.specs.declared.run.Stage.TheVariants as stage
 use Rattle.script.specs.declared.stream.Start.{Start}
 use Rattle.script.specs.declared.stream.Next.{Next}
 use Rattle.script.specs.declared.stream.Next.TheVariants as next
 use Rattle.script.specs.declared.stream.Turn.{Turn}
-use Rattle.script.specs.declared.stream.Arrival.{Arrival}
-use Rattle.script.specs.declared.stream.Arrival.TheVariants as arrival
-use Rattle.script.specs.declared.stream.Status.{Status}
-use Rattle.script.specs.declared.stream.Status.TheVariants as status
+use Rattle.script.specs.declared.stream.StreamError.{StreamError}
+use Rattle.script.specs.declared.stream.StreamError.TheVariants.{CannotRead, CannotWrite}
 use Rattle.script.specs.Line.{longest_line}
 use Rattle.script.specs.Run.{Run, stopped, run_in, is_stopped}
 use Rattle.script.specs.Script.{output_from, next_is_due}
@@ -24,7 +21,7 @@ Prints ended arrived run printed kept next =
 -- What is to be done behind a turn: a run that is stopped is over; without room for a line the lines are written and a turn is taken
 -- again; else all that is due is answered, and the run is over where the input is.
 unfoldable pub next_of : Stage → ℕ → Bool → Next
-next_of stage room ended = cond (is_stopped stage) next.Over (cond (ltb room longest_line) next.Again (cond ended next.Over next.Read))
+next_of stage room ended = cond (is_stopped stage) next.Over (cond (nat_lt room longest_line) next.Again (cond ended next.Over next.Read))
 
 -- What this says of the bytes that are kept: no more is printed, whatever comes; there was no room; or a record is not whole yet.
 abbrev pub Leads : Stage → ℕ → Bool → List ℕ → Run → Next → Type 0
@@ -46,45 +43,51 @@ pub record Turns (text buffer : List ℕ) (start : Start) (text' buffer' out : L
 abbrev pub first_start : Start
 first_start = record { stage = stage.Gathering 0; filled = 0; ended = false }
 
--- What the number of a read tells: below 0 it failed; no byte is the input's end; else the bytes stand behind those that are kept.
-unfoldable pub arrival_of : ℤ → ℕ → ℕ → Arrival
-arrival_of (negsuc k) kept came = arrival.Failed
-arrival_of (pos k) kept came = cond (eqb came 0) arrival.End (arrival.More (kept + came))
+-- What a read tells: no byte is the input's end; else the bytes stand behind those that are kept.
+abbrev pub arrival_of : Result ℕ StreamError → ℕ → Result (Option ℕ) StreamError
+arrival_of (Err error) kept = Err error
+arrival_of (Ok came) kept = Ok (cond (came == 0) None (Some (kept + came)))
 
--- A read behind the bytes that are kept, which stay. Its number is whatever the system answered: no contract says more of it.
-pub record Reads (kept : ℕ) (buffer buffer' : List ℕ) (answer : Arrival) : Type 0 where
+-- A read behind the bytes that are kept, which stay. Its number is whatever the system answered, but never more than there was room for.
+pub record Reads (kept : ℕ) (buffer buffer' : List ℕ) (answer : Result (Option ℕ) StreamError) : Type 0 where
   pub same : take kept buffer' ≡ take kept buffer
-  pub got : ℤ
-  pub tells : answer ≡ arrival_of got kept (clamp_len got (length buffer' - kept))
+  pub got : Result ℕ StreamError
+  pub fits : IfOk got (λ came. came ≤ length buffer' - kept)
+  pub fails : IfErr got (λ error. error ≡ CannotRead)
+  pub tells : answer ≡ arrival_of got kept
 
 -- A read of no bytes says that the input has ended only where there was room for some.
 abbrev pub RoomToRead : Turn → List ℕ → Type 0
 RoomToRead turn buffer = turn.next ≡ next.Read → turn.kept < length buffer
 
--- the run behind a turn that asked for a read: the next turn begins with the bytes that came, or it is told that no more come
-abbrev pub after_read : Turn → Arrival → Status
-after_read turn (arrival.More filled) = status.Running (record { stage = turn.stage; filled = filled; ended = false })
-after_read turn arrival.End = status.Running (record { stage = turn.stage; filled = turn.kept; ended = true })
-after_read turn arrival.Failed = status.CannotRead
+-- what the turn behind one that asked for a read begins with: the bytes that came, or it is told that no more come
+abbrev pub after_read : Turn → Option ℕ → Start
+after_read turn (Some filled) = record { stage = turn.stage; filled = filled; ended = false }
+after_read turn None = record { stage = turn.stage; filled = turn.kept; ended = true }
 
 -- a turn's own bytes, once more
-abbrev pub after_no_read : Turn → Bool → Status
-after_no_read turn ended = status.Running (record { stage = turn.stage; filled = turn.kept; ended = ended })
+abbrev pub after_no_read : Turn → Bool → Start
+after_no_read turn ended = record { stage = turn.stage; filled = turn.kept; ended = ended }
 
-pub record FollowsRead (turn : Turn) (buffer buffer' : List ℕ) (answer : Status) : Type 0 where
-  pub came : Arrival
+-- the run goes on behind a read, but for one that failed
+abbrev pub behind_read : Turn → Result (Option ℕ) StreamError → Result (Option Start) StreamError
+behind_read turn (Ok came) = Ok (Some (after_read turn came))
+behind_read turn (Err error) = Err error
+
+pub record FollowsRead (turn : Turn) (buffer buffer' : List ℕ) (answer : Result (Option Start) StreamError) : Type 0 where
+  pub came : Result (Option ℕ) StreamError
   pub reads : Reads turn.kept buffer buffer' came
-  pub tells : answer ≡ after_read turn came
+  pub tells : answer ≡ behind_read turn came
 
-abbrev pub FollowsBy : Next → Turn → Bool → List ℕ → List ℕ → Status → Type 0
-FollowsBy next.Over turn ended buffer buffer' answer = (buffer' ≡ buffer) × (answer ≡ status.Over)
-FollowsBy next.Again turn ended buffer buffer' answer = (buffer' ≡ buffer) × (answer ≡ after_no_read turn ended)
+abbrev pub FollowsBy : Next → Turn → Bool → List ℕ → List ℕ → Result (Option Start) StreamError → Type 0
+FollowsBy next.Over turn ended buffer buffer' answer = (buffer' ≡ buffer) × (answer ≡ Ok None)
+FollowsBy next.Again turn ended buffer buffer' answer = (buffer' ≡ buffer) × (answer ≡ Ok (Some (after_no_read turn ended)))
 FollowsBy next.Read turn ended buffer buffer' answer = FollowsRead turn buffer buffer' answer
 
 -- How a run goes on behind a turn, whose lines were all written or not: only a turn that asks for a read is followed by one.
-abbrev pub Follows : Bool → Turn → Bool → List ℕ → List ℕ → Status → Type 0
-Follows false turn ended buffer buffer' answer = (buffer' ≡ buffer) × (answer ≡ status.CannotWrite)
-Follows true turn ended buffer buffer' answer = FollowsBy turn.next turn ended buffer buffer' answer
+abbrev pub Follows : Result (Unit {0}) StreamError → Turn → Bool → List ℕ → List ℕ → Result (Option Start) StreamError → Type 0
+Follows (Err error) turn ended buffer buffer' answer = (buffer' ≡ buffer) × (answer ≡ Err error)
+Follows (Ok written) turn ended buffer buffer' answer = FollowsBy turn.next turn ended buffer buffer' answer
 
 -- the bytes that came behind those that a turn kept
 abbrev pub piece_behind : Turn → Start → List ℕ → List ℕ
@@ -97,7 +100,7 @@ pub data History : List (List ℕ) → List (List ℕ) → Start → List ℕ �
   goes_on : {pieces lines : List (List ℕ)} {start start' : Start} {text text' buffer buffer' buffer'' out : List ℕ} {turn : Turn}
       → History pieces lines start text buffer
       → Turns text buffer start text' buffer' out turn
-      → Follows true turn start.ended buffer' buffer'' (status.Running start')
+      → Follows (Ok tt) turn start.ended buffer' buffer'' (Ok (Some start'))
       → History (pieces ++ (piece_behind turn start' buffer'' ∷ [])) (lines ++ (take turn.end out ∷ [])) start' text' buffer''
 
 -- A history and its last turn, of which nothing is left to be done but to hand its lines on: all pieces, all lines, and whether the
@@ -132,8 +135,8 @@ pub record RanTo (text out : List ℕ) (how : Next → Type 0) : Type 0 where
 
 -- How a run ends: there is a history whose last turn says that the run is over, or asks for the read that failed, or has the lines that
 -- were not all written; it breaks off only behind the most turns. Which history it is, no contract of a read or write can say.
-abbrev pub Ends : List ℕ → List ℕ → List ℕ → Status → Type 0
-Ends text buffer out (status.Running start) = Ran most_turns start text buffer
-Ends text buffer out status.Over = RanTo text out (λ n. n ≡ next.Over)
-Ends text buffer out status.CannotRead = RanTo text out (λ n. n ≡ next.Read)
-Ends text buffer out status.CannotWrite = RanTo text out (λ n. Unit {0})
+abbrev pub Ends : List ℕ → List ℕ → List ℕ → Result (Option Start) StreamError → Type 0
+Ends text buffer out (Ok (Some start)) = Ran most_turns start text buffer
+Ends text buffer out (Ok None) = RanTo text out (λ n. n ≡ next.Over)
+Ends text buffer out (Err CannotRead) = RanTo text out (λ n. n ≡ next.Read)
+Ends text buffer out (Err CannotWrite) = RanTo text out (λ n. Unit {0})

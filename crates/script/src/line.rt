@@ -1,4 +1,6 @@
-// Lines of the output, written into a buffer behind those that are there.
+// Lines of the output, written into a buffer behind those that are there. The place is taken and answered by value: in a struct behind
+// `&mut self` it was stored and loaded for each byte, and a line took three times as long. The digits are not written by `fmt`, whose
+// contracts do not say where in a buffer they stand.
 ghost use Rattle.std.specs.Prelude.{[], ◌∷◌, ◌+◌, ◌*◌, ◌≤◌, ◌<◌, length};
 ghost use Rattle.script.specs.Decimal.{decimal};
 ghost use Rattle.script.specs.Line.{behind, line_of, longest_number, longest_field, longest_line, Wrote};
@@ -18,17 +20,13 @@ fn put(out: &mut [u8], at: usize, b: u8) -> usize
     at + 1
 }
 
-pub(crate) fn put_all(out: &mut [u8], at: usize, bytes: &[u8]) -> usize
+fn put_all(out: &mut [u8], at: usize, bytes: &[u8]) -> usize
     requires { at + length bytes.now ≤ length out.old }
     ensures { Wrote out.old at bytes.now out.new result }
 {
-    let mut i = 0;
-    while i < bytes.len() {
-        let b = bytes[i];
-        out[at + i] = b;
-        i += 1;
-    }
-    at + i
+    let end = at + bytes.len();
+    out[at..end].copy_from_slice(bytes);
+    end
 }
 
 fn long_number(out: &mut [u8], at: usize, n: usize) -> usize

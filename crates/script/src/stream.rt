@@ -1,15 +1,15 @@
 // Moves bytes: from standard input through `answer` to standard output, in large pieces.
-ghost use Rattle.std.specs.Prelude.{◌≡◌, ◌+◌, ◌-◌, ◌^◌, ◌≤◌, ◌<◌, length, take, drop};
-ghost use Rattle.script.specs.Run.{most_text};
+ghost use Rattle.std.specs.Prelude.{◌≡◌, ◌+◌, ◌-◌, ◌^◌, ◌≤◌, ◌<◌, length, take, drop, IfOk, IfErr};
+ghost use Rattle.script.specs.declared.stream.StreamError.TheVariants.{CannotRead, CannotWrite};
 ghost use Rattle.script.specs.Stream.{next_of, Turns, first_start, arrival_of, Reads, RoomToRead, after_read, Follows};
 
 use crate::answer::{answer, is_stopped};
 use crate::line::LONGEST;
-use crate::run::Stage;
+use crate::run::{MOST_TEXT, Stage};
 use std::io::{Read, Stdin, Stdout};
 
 // What a turn begins with: how far the run is, how many bytes at the buffer's start have arrived and are not answered, and whether the
-// input has ended.
+// input has ended. The count does not stand in one struct with the buffer, which is lent: between turns it goes by value.
 #[derive(Clone, Copy)]
 pub struct Start {
     pub stage: Stage,
@@ -18,7 +18,7 @@ pub struct Start {
 }
 
 // What is to be done behind a turn.
-#[derive(Clone, Copy)]
+#[derive(Clone, Copy, Debug, PartialEq, Eq)]
 pub enum Next {
     Again,
     Read,
@@ -35,19 +35,9 @@ pub struct Turn {
     pub next: Next,
 }
 
-// What a read gave: so many bytes are in the buffer now; the input's end; or nothing, since it failed.
-#[derive(Clone, Copy)]
-pub enum Arrival {
-    More(usize),
-    End,
-    Failed,
-}
-
-// A run behind a turn.
-#[derive(Clone, Copy)]
-pub enum Status {
-    Running(Start),
-    Over,
+// Why a run can not go on.
+#[derive(Clone, Copy, Debug, PartialEq, Eq)]
+pub enum StreamError {
     CannotRead,
     CannotWrite,
 }
@@ -68,13 +58,8 @@ fn keep_tail(buffer: &mut [u8], from: usize, end: usize) -> usize
     ensures kept { (result ≡ end - from) × (length buffer.new ≡ length buffer.old) }
     ensures bytes { take result buffer.new ≡ take result (drop from buffer.old) }
 {
-    let mut i = 0;
-    while from + i < end {
-        let b = buffer[from + i];
-        buffer[i] = b;
-        i += 1;
-    }
-    i
+    buffer.copy_within(from..end, 0);
+    end - from
 }
 
 fn next_of(stage: Stage, room: usize, ended: bool) -> Next
@@ -91,10 +76,14 @@ fn next_of(stage: Stage, room: usize, ended: bool) -> Next
 
 // Answers what has arrived, as far as there is room for the lines, and keeps the bytes that are not answered. A turn that filled the
 // buffer of lines is followed by one more, even where nothing is left to answer: that one prints nothing.
-pub(crate) fn take_turn(text: &mut [u8], start: Start, buffer: &mut [u8], out: &mut [u8]) -> Turn
-    requires { (length text.old ≡ most_text) × (start.filled ≤ length buffer.old) }
-    ensures text { length text.new ≡ most_text }
-    ensures turns { Turns text.old buffer.old start text.new buffer.new out.new result }
+pub(crate) fn take_turn(
+    text: &mut [u8; MOST_TEXT],
+    start: Start,
+    buffer: &mut [u8],
+    out: &mut [u8],
+) -> Turn
+    requires { start.filled ≤ length buffer.old }
+    ensures { Turns text.old buffer.old start text.new buffer.new out.new result }
 {
     let begun = start.stage;
     let filled = start.filled;
@@ -113,85 +102,86 @@ pub(crate) fn take_turn(text: &mut [u8], start: Start, buffer: &mut [u8], out: &
     }
 }
 
-// Hands bytes to the system's write, and answers whether it took them all. No contract says which bytes a write took, nor to whom they
-// went, so nothing is promised here.
-pub(crate) fn hand_on(output: Stdout, bytes: &[u8]) -> bool {
-    output.write_all(bytes).is_ok()
-}
-
-// Asks the system's read for bytes, and answers how many came, or -1 where it failed. No contract says which bytes it gives, so nothing
-// is promised here; that the part has the length that it had is what its type says.
-fn receive(mut input: Stdin, part: &mut [u8]) -> isize {
-    match input.read(part) {
-        Ok(came) => came as isize,
-        Err(_) => -1,
-    }
-}
-
-fn arrival_of(got: isize, kept: usize, came: usize) -> Arrival
-    requires { kept + came < 2 ^ 64 }
-    ensures { result ≡ arrival_of got kept came }
+// Hands bytes to the system's write, which took them all where the answer is no error. No contract says which bytes a write took, nor to
+// whom they went, so nothing more is promised here.
+pub(crate) fn hand_on(output: Stdout, bytes: &[u8]) -> Result<(), StreamError>
+    ensures { IfErr result (λ error. error ≡ CannotWrite) }
 {
-    if got < 0 {
-        return Arrival::Failed;
-    }
+    output
+        .write_all(bytes)
+        .map_err(|_| StreamError::CannotWrite)
+}
+
+// Asks the system's read for bytes, and answers how many came. No contract says which bytes it gives.
+fn receive(mut input: Stdin, part: &mut [u8]) -> Result<usize, StreamError>
+    ensures fits { IfOk result (λ came. came ≤ length part.new) }
+    ensures fails { IfErr result (λ error. error ≡ CannotRead) }
+{
+    input.read(part).map_err(|_| StreamError::CannotRead)
+}
+
+// How many bytes are in the buffer behind a read, or none at the input's end.
+fn arrival_of(got: Result<usize, StreamError>, kept: usize) -> Result<Option<usize>, StreamError>
+    requires { IfOk got (λ came. kept + came < 2 ^ 64) }
+    ensures { result ≡ arrival_of got kept }
+{
+    let came = got?;
     if came == 0 {
-        return Arrival::End;
+        return Ok(None);
     }
-    Arrival::More(kept + came)
+    Ok(Some(kept + came))
 }
 
 // Reads once, behind the bytes that are kept.
-fn read_more(input: Stdin, buffer: &mut [u8], kept: usize) -> Arrival
+fn read_more(input: Stdin, buffer: &mut [u8], kept: usize) -> Result<Option<usize>, StreamError>
     requires { kept < length buffer.old }
     ensures { Reads kept buffer.old buffer.new result }
 {
     let got = receive(input, &mut buffer[kept..]);
-    let came = io::count(got, &buffer[kept..]);
-    arrival_of(got, kept, came)
+    arrival_of(got, kept)
 }
 
-fn after_read(turn: Turn, came: Arrival) -> Status
+fn after_read(turn: Turn, came: Option<usize>) -> Start
     ensures { result ≡ after_read turn came }
 {
     let stage = turn.stage;
-    let kept = turn.kept;
     match came {
-        Arrival::More(filled) => Status::Running(Start {
+        Some(filled) => Start {
             stage,
             filled,
             ended: false,
-        }),
-        Arrival::End => Status::Running(Start {
+        },
+        None => Start {
             stage,
-            filled: kept,
+            filled: turn.kept,
             ended: true,
-        }),
-        Arrival::Failed => Status::CannotRead,
+        },
     }
 }
 
-// The run behind a turn whose lines were all written or not, and behind the read that this turn asks for.
-pub(crate) fn go_on(input: Stdin, turn: Turn, done: bool, ended: bool, buffer: &mut [u8]) -> Status
+// The run behind a turn whose lines were all written or not, and behind the read that this turn asks for: what the next turn begins
+// with, or none where the run is over.
+pub(crate) fn go_on(
+    input: Stdin,
+    turn: Turn,
+    written: Result<(), StreamError>,
+    ended: bool,
+    buffer: &mut [u8],
+) -> Result<Option<Start>, StreamError>
     requires { (turn.kept ≤ length buffer.old) × RoomToRead turn buffer.old }
-    ensures { Follows done turn ended buffer.old buffer.new result }
+    ensures { Follows written turn ended buffer.old buffer.new result }
 {
-    if !done {
-        return Status::CannotWrite;
-    }
-    let stage = turn.stage;
-    let kept = turn.kept;
-    let next = turn.next;
-    match next {
-        Next::Over => Status::Over,
-        Next::Again => Status::Running(Start {
-            stage,
-            filled: kept,
+    written?;
+    match turn.next {
+        Next::Over => Ok(None),
+        Next::Again => Ok(Some(Start {
+            stage: turn.stage,
+            filled: turn.kept,
             ended,
-        }),
+        })),
         Next::Read => {
-            let came = read_more(input, buffer, kept);
-            after_read(turn, came)
+            let came = read_more(input, buffer, turn.kept)?;
+            Ok(Some(after_read(turn, came)))
         }
     }
 }

@@ -1,3 +1,3 @@
 -- A recorded call made again, and its answer packed (src/call.rt).
 mod PackedAnswers
-mod RecordedCalls
+pub mod RecordedCalls

@@ -1,39 +1,55 @@
 -- A recorded call of a reader: what its packed numbers ask, and how an answer is packed. Assumes nothing.
-use Rattle.std.specs.Prelude.{ℕ, cond, List, [], ◌∷◌, eqb, leb, length, take}
-use Rattle.std.proofs.Math.Option.{Option, some, none}
+use Rattle.std.specs.Prelude.{ℕ, cond, List, [], ◌∷◌, eqb, ◌==◌, nat_le, length, take, Option, Some, None, Result}
 use Rattle.word.specs.declared.format_flags.Format.{Format}
 use Rattle.reader.specs.declared.state.Reader.{Reader}
 use Rattle.reader.specs.declared.state.State.{State}
 use Rattle.reader.specs.State.{reader_named}
-use Rattle.reader.specs.Answer.{Outcome, ReadOutcome, SkipOutcome, BlockOutcome}
+use Rattle.reader.specs.declared.state.Refusal.{Refusal}
+use Rattle.reader.specs.declared.answer.Read.{Read}
+use Rattle.reader.specs.Answer.{refusal_in, answer_in, found_in, read_byte, read_seen, Outcome, ReadOutcome, SkipOutcome, BlockOutcome}
 use Rattle.reader.specs.Reading.{syntax_for, reading_for}
 use Rattle.reader.specs.Calls.{peek_of, next_of, read_of, next_all_of}
 use Rattle.reader.specs.ZeroSkip.{skip_zeros_of}
 use Rattle.reader.specs.Block.{take_n_of, take_n_part}
-use Rattle.cells.specs.DigitRun.{RunOutcome, digit_run_of}
-use Rattle.vectors.specs.declared.call.Repeated.{Repeated}
-use Rattle.vectors.specs.declared.call.Repeated.TheVariants.{Packed, NoCall}
+use Rattle.cells.specs.declared.digit_run.RunError.{RunError}
+use Rattle.cells.specs.DigitRun.{run_number, run_value, RunOutcome, digit_run_of}
 use Rattle.vectors.specs.Packed.{byte_of, with_byte, low_byte_behind, all_behind}
 
 -- An answer's first two bytes: 1 and the byte, how many zeros or the value's lowest byte, 0 and 0 where there is none, 2 and a
 -- refusal's number.
 abbrev pub value_or_none : Option ℕ → ℕ
-value_or_none none = 0
-value_or_none (some n) = low_byte_behind 1 n
+value_or_none None = 0
+value_or_none (Some n) = low_byte_behind 1 n
 
 -- of a read: 1 and the byte taken, 3 and the byte seen where it is declined, 0 and 0 at the end
 abbrev pub read_or_none : (byte seen : Option ℕ) → ℕ
-read_or_none (some b) seen = low_byte_behind 1 b
-read_or_none none (some b) = low_byte_behind 3 b
-read_or_none none none = 0
+read_or_none (Some b) seen = low_byte_behind 1 b
+read_or_none None (Some b) = low_byte_behind 3 b
+read_or_none None None = 0
 
 -- of a block: 1 and 0, whatever its size
 abbrev pub block_or_none : Option ℕ → ℕ
-block_or_none none = 0
-block_or_none (some n) = low_byte_behind 1 0
+block_or_none None = 0
+block_or_none (Some n) = low_byte_behind 1 0
 
 abbrev pub or_refused : ℕ → ℕ → ℕ
 or_refused number first = cond (eqb number 0) first (low_byte_behind 2 number)
+
+-- those bytes, by what a call found
+abbrev pub seen_first : Result (Option ℕ) Refusal → ℕ
+seen_first found = or_refused (refusal_in found) (value_or_none (found_in found))
+
+abbrev pub read_first : Result Read Refusal → ℕ
+read_first found = or_refused (refusal_in found) (read_or_none (read_byte found) (read_seen found))
+
+abbrev pub zeros_first : Result ℕ Refusal → ℕ
+zeros_first found = or_refused (refusal_in found) (value_or_none (answer_in found))
+
+abbrev pub block_first : Result (Option ℕ) Refusal → ℕ
+block_first found = or_refused (refusal_in found) (block_or_none (found_in found))
+
+abbrev pub run_first : Result ℕ RunError → ℕ
+run_first found = or_refused (run_number found) (value_or_none (run_value found))
 
 -- behind them the cursor, what was passed, the three counts, and what was taken
 unfoldable pub with_state : ℕ → State → ℕ → ℕ → ℕ
@@ -58,8 +74,8 @@ packed_run o = with_state (or_refused o.refusal (value_or_none o.value)) o.state
 
 -- a run's value: the whole number, and 0 where the run is refused, which the run's own answer tells from a value of 0
 abbrev pub value_or_zero : Option ℕ → ℕ
-value_or_zero none = 0
-value_or_zero (some v) = v
+value_or_zero None = 0
+value_or_zero (Some v) = v
 
 abbrev pub packed_value : RunOutcome → ℕ
 packed_value o = value_or_zero o.value
@@ -74,18 +90,18 @@ packed_part part = bytes_behind (length part) part
 
 -- by the call's kind: 0 peek, 1 take, 2 read of one value, 3 takes to the end, 4 zero skip, 5 block take, 6 the part of a block, 7 digit
 -- run, 8 the value of a digit run; the word is the state's
-unfoldable pub answer_to : ℕ → List ℕ → State → Reader → ℕ → Repeated
+unfoldable pub answer_to : ℕ → List ℕ → State → Reader → ℕ → Option ℕ
 answer_to kind s st r value =
-    cond (eqb kind 0) (Packed (packed_outcome (peek_of (reading_for st r) s st r)))
-    (cond (eqb kind 1) (Packed (packed_outcome (next_of (reading_for st r) s st r)))
-    (cond (eqb kind 2) (Packed (packed_read (read_of (reading_for st r) s st r (λ b. eqb b value))))
-    (cond (eqb kind 3) (Packed (packed_outcome (next_all_of (reading_for st r) s st r)))
-    (cond (eqb kind 4) (Packed (packed_skip (skip_zeros_of (reading_for st r) s st r)))
-    (cond (eqb kind 5) (Packed (packed_block (take_n_of (reading_for st r) s st r value)))
-    (cond (eqb kind 6) (Packed (packed_part (take_n_part (reading_for st r) s st r value)))
-    (cond (eqb kind 7) (Packed (packed_run (digit_run_of (syntax_for st r) s st r)))
-    (cond (eqb kind 8) (Packed (packed_value (digit_run_of (syntax_for st r) s st r)))
-    NoCall))))))))
+    cond (kind == 0) (Some (packed_outcome (peek_of (reading_for st r) s st r)))
+    (cond (kind == 1) (Some (packed_outcome (next_of (reading_for st r) s st r)))
+    (cond (kind == 2) (Some (packed_read (read_of (reading_for st r) s st r (λ b. eqb b value))))
+    (cond (kind == 3) (Some (packed_outcome (next_all_of (reading_for st r) s st r)))
+    (cond (kind == 4) (Some (packed_skip (skip_zeros_of (reading_for st r) s st r)))
+    (cond (kind == 5) (Some (packed_block (take_n_of (reading_for st r) s st r value)))
+    (cond (kind == 6) (Some (packed_part (take_n_part (reading_for st r) s st r value)))
+    (cond (kind == 7) (Some (packed_run (digit_run_of (syntax_for st r) s st r)))
+    (cond (kind == 8) (Some (packed_value (digit_run_of (syntax_for st r) s st r)))
+    None))))))))
 
 -- The buffer: up to eight bytes, the first one lowest.
 unfoldable pub buffer_of : ℕ → List ℕ
@@ -105,14 +121,14 @@ state_of what f =
     }
 
 -- no call where the buffer is longer than eight bytes, or no reader is named
-abbrev pub by_reader : Option Reader → (Reader → Repeated) → Repeated
-by_reader none answer = NoCall
-by_reader (some r) answer = answer r
+abbrev pub by_reader : Option Reader → (Reader → Option ℕ) → Option ℕ
+by_reader None answer = None
+by_reader (Some r) answer = answer r
 
-abbrev pub asked_of : ℕ → Format → ℕ → Reader → Repeated
+abbrev pub asked_of : ℕ → Format → ℕ → Reader → Option ℕ
 asked_of what f bytes r =
     answer_to (byte_of what 0) (take (byte_of what 2) (buffer_of bytes)) (state_of what f) r (byte_of what 7)
 
-unfoldable pub repeated_of : ℕ → Format → ℕ → Repeated
+unfoldable pub repeated_of : ℕ → Format → ℕ → Option ℕ
 repeated_of what f bytes =
-    cond (leb (byte_of what 2) 8) (by_reader (reader_named (byte_of what 1)) (asked_of what f bytes)) NoCall
+    cond (nat_le (byte_of what 2) 8) (by_reader (reader_named (byte_of what 1)) (asked_of what f bytes)) None

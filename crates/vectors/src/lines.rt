@@ -5,95 +5,88 @@ ghost use Rattle.vectors.specs.Lines.{beginning, filled_record, line_ended, byte
 use crate::record::{Record, parse};
 use crate::replay::compare;
 use crate::report;
-use crate::tally::{Tally, one_more};
+use crate::tally::Tally;
 use std::io::Stdout;
 
 // How far the input is taken in.
 #[derive(Clone, Copy)]
-pub struct Progress {
-    // How many bytes of the line buffer hold the line that has no end yet.
-    pub filled: usize,
+pub struct Progress<const ROOM: usize> {
+    // The line that has no end yet, in its first `filled` bytes.
+    line: [u8; ROOM],
+    filled: usize,
     // How many lines ended.
-    pub ended: u64,
+    ended: u64,
     // How many lines were told.
-    pub told: u64,
+    told: u64,
     pub tally: Tally,
 }
 
-impl Progress {
+impl<const ROOM: usize> Progress<ROOM> {
     pub fn new() -> Self
-        ensures { result ≡ beginning }
+        ensures { result ≡ beginning ROOM }
     {
         Progress {
+            line: [0; ROOM],
             filled: 0,
             ended: 0,
             told: 0,
-            tally: Tally::new(),
+            tally: Tally::default(),
         }
     }
-}
 
-// Takes in what one read gave.
-pub fn take_in(output: Stdout, chunk: &[u8], line: &mut [u8], mut progress: Progress) -> Progress
-    ensures { record { line = line.new; progress = result } ≡ all_taken chunk.now (record { line = line.old; progress = progress }) }
-{
-    let mut i = 0;
-    while i < chunk.len() {
-        let byte = chunk[i];
-        progress = take_byte(output, byte, line, progress);
-        i += 1;
+    // Takes in what one read gave.
+    pub fn take_in(&mut self, output: Stdout, chunk: &[u8])
+        ensures { self.new ≡ all_taken chunk.now self.old }
+    {
+        for byte in chunk {
+            self.take_byte(output, *byte);
+        }
     }
-    progress
-}
 
-// A line that fills the buffer is too long to be a record: what follows of it is dropped.
-fn take_byte(output: Stdout, byte: u8, line: &mut [u8], mut progress: Progress) -> Progress
-    ensures { record { line = line.new; progress = result } ≡ byte_taken byte (record { line = line.old; progress = progress }) }
-{
-    if byte == b'\n' {
-        return end_line(output, line, progress);
+    // A line that fills the buffer is too long to be a record: what follows of it is dropped.
+    fn take_byte(&mut self, output: Stdout, byte: u8)
+        ensures { self.new ≡ byte_taken byte self.old }
+    {
+        if byte == b'\n' {
+            return self.end_line(output);
+        }
+        let filled = self.filled;
+        if filled < ROOM {
+            self.line[filled] = byte;
+            self.filled = filled + 1;
+        }
     }
-    let filled = progress.filled;
-    if filled < line.len() {
-        line[filled] = byte;
-        progress.filled = filled + 1;
-    }
-    progress
-}
 
-// A last line needs no line end.
-pub fn finish(output: Stdout, line: &[u8], progress: Progress) -> Progress
-    ensures { result ≡ finished line.now progress }
-{
-    let nothing = progress.filled == 0;
-    if nothing {
-        return progress;
+    // A last line needs no line end.
+    pub fn finish(&mut self, output: Stdout)
+        ensures { self.new ≡ finished self.old }
+    {
+        let nothing = self.filled == 0;
+        if nothing {
+            return;
+        }
+        self.end_line(output);
     }
-    end_line(output, line, progress)
-}
 
-fn parse_filled(line: &[u8], filled: usize) -> Record
-    ensures { result ≡ filled_record line.now filled }
-{
-    if filled < line.len() {
-        return parse(&line[0..filled]);
+    fn parse_filled(&self) -> Option<Record>
+        ensures { result ≡ filled_record self.now }
+    {
+        if self.filled < ROOM {
+            parse(&self.line[..self.filled])
+        } else {
+            None
+        }
     }
-    Record::none()
-}
 
-// Compares a whole line, and tells it if it differs.
-fn end_line(output: Stdout, line: &[u8], progress: Progress) -> Progress
-    ensures { result ≡ line_ended line.now progress }
-{
-    let parsed = parse_filled(line, progress.filled);
-    let kind = parsed.kind;
-    let verdict = compare(parsed);
-    let ended = one_more(progress.ended);
-    let told = report::tell(output, ended, verdict, progress.told);
-    Progress {
-        filled: 0,
-        ended,
-        told,
-        tally: progress.tally.with(kind, verdict),
+    // Compares a whole line, and tells it if it differs.
+    fn end_line(&mut self, output: Stdout)
+        ensures { self.new ≡ line_ended self.old }
+    {
+        let parsed = self.parse_filled();
+        let verdict = compare(parsed);
+        self.filled = 0;
+        self.ended = self.ended.saturating_add(1);
+        self.told = report::tell(output, self.ended, verdict, self.told);
+        self.tally = self.tally.with(parsed.map(|record| record.kind), verdict);
     }
 }

@@ -1,20 +1,13 @@
 // Packed numbers, as the record has them: eight bytes, the first one highest.
-ghost use Rattle.std.specs.Prelude.{◌<◌, ◌≡◌};
-ghost use Rattle.vectors.specs.Packed.{byte_of, with_byte, low_byte_behind};
+ghost use Rattle.std.specs.Prelude.{◌≡◌};
+ghost use Rattle.vectors.specs.Packed.{with_byte, low_byte_behind};
 
 // A packed number without its highest byte is below it.
 const MODULUS: u64 = 0x100_0000_0000_0000;
 
-// Byte `place` of a packed number, counted from the highest.
-pub(crate) fn byte_of(packed: u64, place: u32) -> u8
-    requires { place < 8 }
-    ensures { result ≡ byte_of packed place }
-{
-    let shift = (7 - place) * 8;
-    ((packed >> shift) % 256) as u8
-}
-
-// With one more byte behind the lowest; the highest one is lost.
+// With one more byte behind the lowest; the highest one is lost. One at a time, since a part has as many bytes as it has:
+// `from_be_bytes` wants all eight.
+#[tactic(auto, unfolding(crate::specs::Packed::with_byte))]
 pub(crate) fn with_byte(packed: u64, next: u8) -> u64
     ensures { result ≡ with_byte packed next }
 {

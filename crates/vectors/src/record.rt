@@ -1,12 +1,10 @@
 // A line of the record, taken apart: a letter for its kind, then fields, each a space and a number in upper-case hex.
-ghost use Rattle.std.specs.Prelude.{◌+◌, ◌≤◌, ◌≡◌, length, drop};
+ghost use Rattle.std.specs.Prelude.{◌≤◌, ◌≡◌, ◌==◌, length};
+ghost use Rattle.std.specs.List.{position};
 ghost use Rattle.vectors.specs.Hex.{hex_value, read_hex};
-ghost use Rattle.vectors.specs.Line.{of_kind, no_record, with_field, until_space, record_of};
+ghost use Rattle.vectors.specs.Line.{kind_of, of_kind, with_field, until_space, record_of};
 
 use crate::packed::pushed;
-
-// The kind of a line that is no record.
-pub const NO_RECORD: u8 = 0;
 
 // The most fields of a record.
 pub const FIELDS: usize = 8;
@@ -16,65 +14,81 @@ const DIGITS: usize = 16;
 
 const RADIX: u64 = 16;
 
+// What a record asks, by the letter that it begins with.
+#[derive(Clone, Copy)]
+pub enum Kind {
+    // `W lo hi full plain`: a word and the answers of both checks.
+    Word,
+    // `D byte radix digit`: whether a byte is a digit of a radix.
+    Digit,
+    // `R what lo hi bytes answer`: a call of a reader, in packed numbers.
+    Call,
+    // `E what b0 b1 b2 b3 b4 answer`: a search for the end of a run, in packed numbers. The answer is a plain count's, since
+    // the crate does not tell it.
+    RunEnd,
+}
+
 // The parts of a line. `shape` has each field's count of digits in a byte of its own, the last field's lowest, so that
 // one number tells the line's format.
 #[derive(Clone, Copy)]
 pub struct Record {
-    pub kind: u8,
+    pub kind: Kind,
     pub count: usize,
     pub shape: u64,
     pub values: [u64; FIELDS],
 }
 
-#[derive(Clone, Copy)]
-enum Number {
-    Value(u64),
-    Nothing,
+impl Kind {
+    fn of(letter: u8) -> Option<Self>
+        ensures { result ≡ kind_of letter }
+    {
+        match letter {
+            b'W' => Some(Kind::Word),
+            b'D' => Some(Kind::Digit),
+            b'R' => Some(Kind::Call),
+            b'E' => Some(Kind::RunEnd),
+            _ => None,
+        }
+    }
 }
 
 fn letter_value(byte: u8) -> u64
     requires { (65 ≤ byte) × (byte ≤ 70) }
-    ensures { result ≡ hex_value byte }
+    ensures { Some result ≡ hex_value byte }
 {
     (byte - b'A') as u64 + 10
 }
 
-// The value of an upper-case hex digit, and 16 for any other byte.
-fn hex_value(byte: u8) -> u64
+// The value of an upper-case hex digit; `char::to_digit` and `u64::from_str_radix` take lower-case ones too.
+fn hex_value(byte: u8) -> Option<u64>
     ensures { result ≡ hex_value byte }
 {
     match byte {
-        b'0'..=b'9' => (byte - b'0') as u64,
-        b'A'..=b'F' => letter_value(byte),
-        _ => RADIX,
+        b'0'..=b'9' => Some((byte - b'0') as u64),
+        b'A'..=b'F' => Some(letter_value(byte)),
+        _ => None,
     }
 }
 
 // The number that one to sixteen digits spell.
-fn read_number(digits: &[u8]) -> Number
+fn read_number(digits: &[u8]) -> Option<u64>
     ensures { result ≡ read_hex digits.now }
 {
-    if digits.len() == 0 {
-        return Number::Nothing;
+    if digits.is_empty() {
+        return None;
     }
     if digits.len() > DIGITS {
-        return Number::Nothing;
+        return None;
     }
     let mut value = 0;
-    let mut i = 0;
-    while i < digits.len() {
-        let digit = hex_value(digits[i]);
-        if digit >= RADIX {
-            return Number::Nothing;
-        }
-        value = value * RADIX + digit;
-        i += 1;
+    for digit in digits {
+        value = value * RADIX + hex_value(*digit)?;
     }
-    Number::Value(value)
+    Some(value)
 }
 
 impl Record {
-    fn of_kind(kind: u8) -> Self
+    fn of_kind(kind: Kind) -> Self
         ensures { result ≡ of_kind kind }
     {
         Record {
@@ -85,66 +99,55 @@ impl Record {
         }
     }
 
-    // What a line that is no record gives.
-    pub fn none() -> Self
-        ensures { result ≡ no_record }
-    {
-        Record::of_kind(NO_RECORD)
-    }
-
     // With one more field, given with the space before it.
-    fn with_field(mut self, field: &[u8]) -> Self
+    fn with_field(mut self, field: &[u8]) -> Option<Self>
         ensures { result ≡ with_field self field.now }
     {
         let count = self.count;
         if count >= FIELDS {
-            return Record::none();
+            return None;
         }
-        if field.len() == 0 {
-            return Record::none();
+        if field.is_empty() {
+            return None;
         }
         if field[0] != b' ' {
-            return Record::none();
+            return None;
         }
-        let Number::Value(value) = read_number(&field[1..]) else {
-            return Record::none();
-        };
+        let value = read_number(&field[1..])?;
         self.values[count] = value;
         self.count = count + 1;
         self.shape = pushed(self.shape, field.len() - 1);
-        self
+        Some(self)
     }
 }
 
-// The next space from `at` on, or the end of the line.
-fn field_end(line: &[u8], at: usize) -> usize
-    requires { at ≤ length line.now }
-    ensures { (result ≡ at + until_space (drop at line.now)) × (result ≤ length line.now) }
+fn next_space(line: &[u8]) -> Option<usize>
+    ensures { result ≡ position (λ c. c == 32) line.now }
 {
-    let mut end = at;
-    while end < line.len() {
-        let at_space = line[end] == b' ';
-        if at_space {
-            return end;
-        }
-        end += 1;
-    }
-    end
+    line.iter().position(|byte| *byte == b' ')
 }
 
-// Takes apart a line, given without its line end. Once a field is wrong, the kind stays NO_RECORD.
-pub fn parse(line: &[u8]) -> Record
+// How many bytes stand before the next space, or before the end.
+fn until_space(line: &[u8]) -> usize
+    ensures { (result ≡ until_space line.now) × (result ≤ length line.now) }
+{
+    next_space(line).unwrap_or(line.len())
+}
+
+// Takes apart a line, given without its line end. `split` would be no plainer: a field has the space before it, and what it
+// hands out first is no field.
+pub fn parse(line: &[u8]) -> Option<Record>
     ensures { result ≡ record_of line.now }
 {
-    if line.len() == 0 {
-        return Record::none();
+    if line.is_empty() {
+        return None;
     }
-    let mut parsed = Record::of_kind(line[0]);
+    let mut parsed = Record::of_kind(Kind::of(line[0])?);
     let mut at = 1;
     while at < line.len() {
-        let end = field_end(line, at + 1);
-        parsed = parsed.with_field(&line[at..end]);
+        let end = at + 1 + until_space(&line[at + 1..]);
+        parsed = parsed.with_field(&line[at..end])?;
         at = end;
     }
-    parsed
+    Some(parsed)
 }

@@ -2,31 +2,20 @@
 ghost use Rattle.std.specs.Prelude.{◌≡◌, cond};
 ghost use Rattle.word.specs.Check.{full_check, plain_check};
 ghost use Rattle.word.specs.Digit.{is_digit};
-ghost use Rattle.vectors.specs.Replay.{verdict, or_else, beside, verdict_of, word_verdict, digit_verdict, call_verdict, run_end_verdict};
+ghost use Rattle.vectors.specs.Replay.{verdict, beside, verdict_of, word_verdict, digit_verdict, call_verdict, run_end_verdict};
 
-use crate::call::{Repeated, repeat};
-use crate::record::Record;
+use crate::call::repeat;
+use crate::record::{Kind, Record};
 use crate::run_end::search_again;
 use word::format_flags::Format;
 
-// `W lo hi full plain`: a word and the answers of both checks.
-pub const WORD: u8 = b'W';
-
+// How many digits the fields of each kind have. Each kind tests its own shape where it takes its fields: one test for all that answers by
+// `?` was tried, and its proof did not close.
 const WORD_SHAPE: u64 = 0x10_10_02_02;
-
-// `D byte radix digit`: whether a byte is a digit of a radix.
-pub const DIGIT: u8 = b'D';
 
 const DIGIT_SHAPE: u64 = 0x02_08_01;
 
-// `R what lo hi bytes answer`: a call of a reader, in packed numbers.
-pub const CALL: u8 = b'R';
-
 const CALL_SHAPE: u64 = 0x10_10_10_10_10;
-
-// `E what b0 b1 b2 b3 b4 answer`: a search for the end of a run, in packed numbers. The answer is a plain count's, since
-// the crate does not tell it.
-pub const RUN_END: u8 = b'E';
 
 const RUN_END_SHAPE: u64 = 0x10_10_10_10_10_10_10;
 
@@ -47,33 +36,31 @@ pub struct Difference {
     pub answered: u64,
 }
 
-// What a line comes to. Of several answers that differ the first is given.
+// Why a line is not one whose answers are the same. Of several answers that differ the first is given.
 #[derive(Clone, Copy)]
-pub enum Verdict {
-    Same,
+pub enum Fault {
     Differs(Difference),
     NoRecord,
 }
 
 // Compares what a record says with what our library says.
-pub fn compare(parsed: Record) -> Verdict
+pub fn compare(parsed: Option<Record>) -> Result<(), Fault>
     ensures { result ≡ verdict_of parsed }
 {
-    let kind = parsed.kind;
-    match kind {
-        WORD => compare_word(parsed),
-        DIGIT => compare_digit(parsed),
-        CALL => compare_call(parsed),
-        RUN_END => compare_run_end(parsed),
-        _ => Verdict::NoRecord,
+    let record = parsed.ok_or(Fault::NoRecord)?;
+    match record.kind {
+        Kind::Word => compare_word(record),
+        Kind::Digit => compare_digit(record),
+        Kind::Call => compare_call(record),
+        Kind::RunEnd => compare_run_end(record),
     }
 }
 
-fn compare_call(parsed: Record) -> Verdict
+fn compare_call(parsed: Record) -> Result<(), Fault>
     ensures { result ≡ call_verdict parsed }
 {
     if parsed.shape != CALL_SHAPE {
-        return Verdict::NoRecord;
+        return Err(Fault::NoRecord);
     }
     let values = parsed.values;
     let format = Format {
@@ -84,11 +71,11 @@ fn compare_call(parsed: Record) -> Verdict
     beside(Answer::Call, values[4], repeated)
 }
 
-fn compare_run_end(parsed: Record) -> Verdict
+fn compare_run_end(parsed: Record) -> Result<(), Fault>
     ensures { result ≡ run_end_verdict parsed }
 {
     if parsed.shape != RUN_END_SHAPE {
-        return Verdict::NoRecord;
+        return Err(Fault::NoRecord);
     }
     let values = parsed.values;
     let numbers = [values[1], values[2], values[3], values[4], values[5]];
@@ -97,20 +84,18 @@ fn compare_run_end(parsed: Record) -> Verdict
 }
 
 // What asks for no call is no record.
-fn beside(answer: Answer, recorded: u64, repeated: Repeated) -> Verdict
+fn beside(answer: Answer, recorded: u64, repeated: Option<u64>) -> Result<(), Fault>
     ensures { result ≡ beside answer recorded repeated }
 {
-    match repeated {
-        Repeated::Packed(answered) => settle(answer, recorded, answered),
-        Repeated::NoCall => Verdict::NoRecord,
-    }
+    let answered = repeated.ok_or(Fault::NoRecord)?;
+    settle(answer, recorded, answered)
 }
 
-fn compare_word(parsed: Record) -> Verdict
+fn compare_word(parsed: Record) -> Result<(), Fault>
     ensures { result ≡ word_verdict parsed }
 {
     if parsed.shape != WORD_SHAPE {
-        return Verdict::NoRecord;
+        return Err(Fault::NoRecord);
     }
     let values = parsed.values;
     let format = Format {
@@ -119,7 +104,7 @@ fn compare_word(parsed: Record) -> Verdict
     };
     let full = settle(Answer::Full, values[2], full_answer(format));
     let plain = settle(Answer::Plain, values[3], plain_answer(format));
-    or_else(full, plain)
+    full.and(plain)
 }
 
 fn full_answer(format: Format) -> u64
@@ -135,58 +120,37 @@ fn plain_answer(format: Format) -> u64
 }
 
 // The shape bounds both numbers already; to test them here spares a proof of that.
-fn compare_digit(parsed: Record) -> Verdict
+fn compare_digit(parsed: Record) -> Result<(), Fault>
     ensures { result ≡ digit_verdict parsed }
 {
     if parsed.shape != DIGIT_SHAPE {
-        return Verdict::NoRecord;
+        return Err(Fault::NoRecord);
     }
     let values = parsed.values;
-    let byte = values[0];
-    let radix = values[1];
-    if byte > 0xFF {
-        return Verdict::NoRecord;
-    }
-    if radix > 0xFFFF_FFFF {
-        return Verdict::NoRecord;
-    }
-    settle(
-        Answer::Digit,
-        values[2],
-        digit_answer(byte as u8, radix as u32),
-    )
+    let Ok(byte) = u8::try_from(values[0]) else {
+        return Err(Fault::NoRecord);
+    };
+    let Ok(radix) = u32::try_from(values[1]) else {
+        return Err(Fault::NoRecord);
+    };
+    settle(Answer::Digit, values[2], digit_answer(byte, radix))
 }
 
 fn digit_answer(byte: u8, radix: u32) -> u64
     ensures { result ≡ cond (is_digit byte radix) 1 0 }
 {
-    if word::digit::char_is_digit_const(byte, radix) {
-        1
-    } else {
-        0
-    }
+    u64::from(word::digit::char_is_digit_const(byte, radix))
 }
 
-// The first verdict, or the second where the first is that the answers are the same.
-fn or_else(first: Verdict, second: Verdict) -> Verdict
-    ensures { result ≡ or_else first second }
-{
-    match first {
-        Verdict::Same => second,
-        Verdict::Differs(_) => first,
-        Verdict::NoRecord => first,
-    }
-}
-
-fn settle(answer: Answer, recorded: u64, answered: u64) -> Verdict
+fn settle(answer: Answer, recorded: u64, answered: u64) -> Result<(), Fault>
     ensures { result ≡ verdict answer recorded answered }
 {
     if recorded == answered {
-        return Verdict::Same;
+        return Ok(());
     }
-    Verdict::Differs(Difference {
+    Err(Fault::Differs(Difference {
         answer,
         recorded,
         answered,
-    })
+    }))
 }

@@ -2,9 +2,10 @@
 ghost use Rattle.std.specs.Prelude.{◌≡◌};
 ghost use Rattle.vectors.specs.Lines.{told_after};
 
-use crate::replay::{Answer, Difference, Verdict};
-use crate::tally::{Count, Tally};
-use std::io::Stdout;
+use crate::replay::{Answer, Difference, Fault};
+use crate::tally::Tally;
+use std::fmt;
+use std::io::{Cursor, Stdout, Write};
 
 // How many lines are told; the rest are only counted.
 const MOST_TOLD: u64 = 20;
@@ -12,116 +13,80 @@ const MOST_TOLD: u64 = 20;
 // Room for the summary with every number at its longest.
 const TEXT_ROOM: usize = 512;
 
-// A text in the making, so that it is written by one call.
-#[derive(Clone, Copy)]
-struct Text {
-    bytes: [u8; TEXT_ROOM],
-    used: usize,
-}
-
-// Takes the array by reference, where its length is known without a proof.
-fn write_start(output: Stdout, bytes: &[u8; TEXT_ROOM], used: usize) {
-    let whole: &[u8] = bytes;
-    if used <= whole.len() {
-        let _ = output.write_all(&whole[0..used]);
+impl fmt::Display for Answer {
+    fn fmt<W: fmt::Write>(&self, f: &mut fmt::Formatter<W>) -> fmt::Result {
+        f.write_str(match self {
+            Answer::Full => "full",
+            Answer::Plain => "plain",
+            Answer::Digit => "digit",
+            Answer::Call => "call",
+            Answer::RunEnd => "run end",
+        })
     }
 }
 
-impl Text {
-    fn new() -> Self {
-        Text {
-            bytes: [0; TEXT_ROOM],
-            used: 0,
+impl fmt::Display for Difference {
+    fn fmt<W: fmt::Write>(&self, f: &mut fmt::Formatter<W>) -> fmt::Result {
+        let answer = self.answer;
+        let recorded = self.recorded;
+        let answered = self.answered;
+        write!(f, "{answer} recorded {recorded}, answered {answered}")
+    }
+}
+
+impl fmt::Display for Fault {
+    fn fmt<W: fmt::Write>(&self, f: &mut fmt::Formatter<W>) -> fmt::Result {
+        match self {
+            Fault::Differs(found) => write!(f, "{found}"),
+            Fault::NoRecord => f.write_str("not a record"),
         }
     }
+}
 
-    // What finds no room is left out.
-    fn then(self, words: &[u8]) -> Self {
-        let mut bytes = self.bytes;
-        let mut used = self.used;
-        let mut i = 0;
-        while i < words.len() {
-            if used < TEXT_ROOM {
-                bytes[used] = words[i];
-                used += 1;
-            }
-            i += 1;
+impl fmt::Display for Tally {
+    fn fmt<W: fmt::Write>(&self, f: &mut fmt::Formatter<W>) -> fmt::Result {
+        let counts = [
+            (self.words, "words"),
+            (self.digits, "digits"),
+            (self.calls, "reader calls"),
+            (self.run_ends, "run ends"),
+        ];
+        for (count, name) in counts {
+            let lines = count.lines;
+            let differences = count.differences;
+            writeln!(f, "{lines} {name}, {differences} differences")?;
         }
-        Text { bytes, used }
+        let others = self.others;
+        writeln!(f, "{others} lines that are no record")
     }
+}
 
-    fn number(self, n: u64) -> Self {
-        let mut digits = [0u8; 20];
-        let k = io::decimal(n, &mut digits);
-        self.then(&digits[..k])
-    }
-
-    fn of_line(number: u64) -> Self {
-        Text::new().then(b"line ").number(number).then(b": ")
-    }
-
-    fn answer(self, answer: Answer) -> Self {
-        match answer {
-            Answer::Full => self.then(b"full"),
-            Answer::Plain => self.then(b"plain"),
-            Answer::Digit => self.then(b"digit"),
-            Answer::Call => self.then(b"call"),
-            Answer::RunEnd => self.then(b"run end"),
-        }
-    }
-
-    fn difference(self, found: Difference) -> Self {
-        let answer = found.answer;
-        self.answer(answer)
-            .then(b" recorded ")
-            .number(found.recorded)
-            .then(b", answered ")
-            .number(found.answered)
-    }
-
-    fn count(self, of: Count, name: &[u8]) -> Self {
-        self.number(of.lines)
-            .then(name)
-            .number(of.differences)
-            .then(b" differences\n")
-    }
-
-    fn write(self, output: Stdout) {
-        let bytes = self.bytes;
-        write_start(output, &bytes, self.used);
+// Writes a text by one call, so it is made whole first. What finds no room is left out.
+fn write_whole(output: Stdout, text: impl fmt::Display + Drop) {
+    let mut whole = Cursor::new([0u8; TEXT_ROOM]);
+    let _ = write!(whole, "{text}");
+    let used = whole.position() as usize;
+    if let Some(written) = whole.get_ref().get(..used) {
+        let _ = output.write_all(written);
     }
 }
 
 // Tells of a line that differs, unless enough are told, and answers how many are.
-pub fn tell(output: Stdout, line: u64, verdict: Verdict, told: u64) -> u64
+pub fn tell(output: Stdout, line: u64, verdict: Result<(), Fault>, told: u64) -> u64
     ensures { result ≡ told_after told verdict }
 {
     if told >= MOST_TOLD {
         return told;
     }
     match verdict {
-        Verdict::Same => told,
-        Verdict::Differs(found) => {
-            Text::of_line(line)
-                .difference(found)
-                .then(b"\n")
-                .write(output);
-            told + 1
-        }
-        Verdict::NoRecord => {
-            Text::of_line(line).then(b"not a record\n").write(output);
+        Ok(()) => told,
+        Err(fault) => {
+            write_whole(output, format_args!("line {line}: {fault}\n"));
             told + 1
         }
     }
 }
 
 pub fn sum_up(output: Stdout, tally: Tally) {
-    Text::new()
-        .count(tally.words, b" words, ")
-        .count(tally.digits, b" digits, ")
-        .count(tally.calls, b" reader calls, ")
-        .count(tally.run_ends, b" run ends, ")
-        .number(tally.others)
-        .then(b" lines that are no record\n")
-        .write(output);
+    write_whole(output, tally);
 }

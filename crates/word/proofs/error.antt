@@ -1,2 +1,2 @@
 -- A theorem about the numbers of answers, used by no function.
-mod Numbers
+pub mod Numbers

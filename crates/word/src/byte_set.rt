@@ -5,7 +5,7 @@ ghost use Rattle.word.specs.ByteSet.{member};
 
 use crate::format_flags::bits_at;
 
-#[derive(Clone, Copy)]
+#[derive(Clone, Copy, Debug, Default, PartialEq, Eq)]
 pub struct ByteSet {
     pub bits: [u64; 4],
 }
@@ -22,23 +22,28 @@ impl ByteSet {
     pub fn from_byte(b: u8) -> Self
         ensures { (x : ℕ) → x < 256 → member result x ≡ (x == b) }
     {
-        ByteSet::new().insert(b)
+        ByteSet::from(b)
     }
 
     // The set with one more byte.
     pub fn insert(mut self, b: u8) -> Self
         ensures { (x : ℕ) → x < 256 → member result x ≡ (x == b || member self x) }
     {
-        let at = (b / 64) as usize;
-        let shift = (b % 64) as u32;
-        self.bits[at] = self.bits[at] | (1 << shift);
+        self.bits[usize::from(b / 64)] |= 1 << (b % 64);
         self
     }
 
     pub fn contains(self, b: u8) -> bool
         ensures { result ≡ member self b }
     {
-        let at = (b / 64) as usize;
-        bits_at(self.bits[at], (b % 64) as u32, 1) == 1
+        bits_at(self.bits[usize::from(b / 64)], u32::from(b % 64), 1) == 1
+    }
+}
+
+impl From<u8> for ByteSet {
+    ghost from_gives = { λ b s. (x : ℕ) → x < 256 → member s x ≡ (x == b) };
+
+    fn from(b: u8) -> Self {
+        ByteSet::new().insert(b)
     }
 }

@@ -1,21 +1,14 @@
 // Digits: which bytes are digits of a radix. After lexical-util's digit.rs.
 ghost use Rattle.std.specs.Prelude.{◌≡◌, ◌+◌, ◌-◌, ◌*◌, ◌<◌, min};
-ghost use Rattle.word.specs.Digit.{digit_value, value_of, is_digit, entry, entries_from};
+ghost use Rattle.word.specs.Digit.{digit_value, is_digit, entry, entries_from};
 
 use crate::format_flags::bits_at;
-
-fn wide(value: u8) -> u32
-    ensures { result ≡ value }
-{
-    value as u32
-}
 
 // Eight entries of the table in one number, the first in its lowest eight bits.
 fn eight(a: u8, b: u8, c: u8, d: u8, e: u8, f: u8, g: u8, h: u8) -> u64
     ensures { result ≡ a + 256 * (b + 256 * (c + 256 * (d + 256 * (e + 256 * (f + 256 * (g + 256 * h)))))) }
 {
-    let high = ((h as u64 * 256 + g as u64) * 256 + f as u64) * 256 + e as u64;
-    (((high * 256 + d as u64) * 256 + c as u64) * 256 + b as u64) * 256 + a as u64
+    u64::from_le_bytes([a, b, c, d, e, f, g, h])
 }
 
 // The value of each byte, in one table of 256 entries, eight to a row: 0 to 9 for the figures, 10 to 35 for the letters of either
@@ -64,52 +57,40 @@ fn row_of(row: u32) -> u64
 fn entry_of(c: u8) -> u8
     ensures { result ≡ entry (digit_value c) }
 {
-    let byte = wide(c);
+    let byte = u32::from(c);
     bits_at(row_of(byte / 8), byte % 8 * 8, 8) as u8
 }
 
-// A byte's value, whatever the radix.
-#[derive(Clone, Copy)]
-pub enum DigitValue {
-    Value(u8),
-    NoValue,
-}
-
-// The byte's entry in the table, with 255 told apart.
-pub fn digit_value(c: u8) -> DigitValue
-    ensures { value_of result ≡ digit_value c }
+// A byte's value, whatever the radix: its entry in the table, where 255 is none.
+pub fn digit_value(c: u8) -> Option<u8>
+    ensures { result ≡ digit_value c }
 {
     let value = entry_of(c);
     if value == 255 {
-        return DigitValue::NoValue;
+        return None;
     }
-    DigitValue::Value(value)
+    Some(value)
 }
 
 pub fn char_is_digit_const(c: u8, radix: u32) -> bool
     ensures { result ≡ is_digit c radix }
 {
-    wide(entry_of(c)) < radix
+    u32::from(entry_of(c)) < radix
 }
 
-// The same for a radix of eight bits, as the readers have it.
+// The same for a radix of eight bits, which all readers have. Compared in eight bits, the entry is one load of a byte; through the
+// function above it is a load of a row and a shift, which was tried and is a tenth slower.
 pub fn char_is_digit_by_table(c: u8, radix: u8) -> bool
     ensures { result ≡ is_digit c radix }
 {
     entry_of(c) < radix
 }
 
-fn min_u8(a: u8, b: u8) -> u8
-    ensures { result ≡ min a b }
-{
-    if a < b { a } else { b }
-}
-
 // How many of the letters are digits of a radix. Without a branch of its own, it is worked out before a loop.
 fn letters_of(radix: u8) -> u8
     ensures { result ≡ min (radix - 10) 26 }
 {
-    min_u8(radix, 36) - min_u8(radix, 10)
+    radix.min(36) - radix.min(10)
 }
 
 // The same by the ranges of figures and letters, which are the table's: for a loop that compares many bytes at once, where no table can
@@ -118,10 +99,10 @@ fn letters_of(radix: u8) -> u8
 pub fn char_is_digit_by_range(c: u8, radix: u8) -> bool
     ensures { result ≡ is_digit c radix }
 {
-    let figure = std::num::wrapping_sub_u8(c, 48);
+    let figure = c.wrapping_sub(b'0');
     if radix <= 10 {
         return figure < radix;
     }
-    let letter = std::num::wrapping_sub_u8(c | 32, 97);
-    (figure < min_u8(radix, 10)) | (letter < letters_of(radix))
+    let letter = (c | 32).wrapping_sub(b'a');
+    (figure < radix.min(10)) | (letter < letters_of(radix))
 }

@@ -2,54 +2,38 @@
 ghost use Rattle.std.specs.Prelude.{◌≡◌, ◌==◌};
 ghost use Rattle.word.specs.Error.{number_of};
 
-#[derive(Clone, Copy)]
+// With their numbers in document 01.
+#[derive(Clone, Copy, Debug, PartialEq, Eq)]
 pub enum Error {
-    Success,
-    InvalidMantissaRadix,
-    InvalidExponentBase,
-    InvalidExponentRadix,
-    InvalidDigitSeparator,
-    InvalidBasePrefix,
-    InvalidBaseSuffix,
-    InvalidPunctuation,
-    InvalidExponentFlags,
-    InvalidMantissaSign,
-    InvalidExponentSign,
-    InvalidSpecial,
-    InvalidConsecutiveIntegerDigitSeparator,
-    InvalidConsecutiveFractionDigitSeparator,
-    InvalidConsecutiveExponentDigitSeparator,
-    InvalidFlags,
+    Success = 0,
+    InvalidMantissaRadix = 1,
+    InvalidExponentBase = 2,
+    InvalidExponentRadix = 3,
+    InvalidDigitSeparator = 4,
+    InvalidBasePrefix = 5,
+    InvalidBaseSuffix = 6,
+    InvalidPunctuation = 7,
+    InvalidExponentFlags = 8,
+    InvalidMantissaSign = 9,
+    InvalidExponentSign = 10,
+    InvalidSpecial = 11,
+    InvalidConsecutiveIntegerDigitSeparator = 12,
+    InvalidConsecutiveFractionDigitSeparator = 13,
+    InvalidConsecutiveExponentDigitSeparator = 14,
+    InvalidFlags = 15,
 }
 
 impl Error {
     pub fn is_success(self) -> bool
         ensures { result ≡ (number_of self == 0) }
     {
-        self.number() == 0
+        self == Error::Success
     }
 
     // Its number in document 01.
     pub fn number(self) -> u32
         ensures { result ≡ number_of self }
     {
-        match self {
-            Error::Success => 0,
-            Error::InvalidMantissaRadix => 1,
-            Error::InvalidExponentBase => 2,
-            Error::InvalidExponentRadix => 3,
-            Error::InvalidDigitSeparator => 4,
-            Error::InvalidBasePrefix => 5,
-            Error::InvalidBaseSuffix => 6,
-            Error::InvalidPunctuation => 7,
-            Error::InvalidExponentFlags => 8,
-            Error::InvalidMantissaSign => 9,
-            Error::InvalidExponentSign => 10,
-            Error::InvalidSpecial => 11,
-            Error::InvalidConsecutiveIntegerDigitSeparator => 12,
-            Error::InvalidConsecutiveFractionDigitSeparator => 13,
-            Error::InvalidConsecutiveExponentDigitSeparator => 14,
-            Error::InvalidFlags => 15,
-        }
+        self as u32
     }
 }

@@ -220,7 +220,8 @@ impl Format {
     }
 }
 
-// One line of a check: its error where it fails, else what the lines after it say.
+// One line of a check: its error where it fails, else what the lines after it say. An error that is `Success` where there is none stays one
+// number: as `Result<(), Error>`, with lines joined by `and` and groups left by `?`, an accepted word was checked a fifth slower.
 pub(crate) fn line(holds: bool, error: Error, rest: Error) -> Error
     ensures { number_of result ≡ (if holds then number_of rest else number_of error) }
 {

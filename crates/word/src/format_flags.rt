@@ -1,14 +1,14 @@
 // The layout of a format word, its fields, and the validators of single fields. After lexical-util's format_flags.rs.
-ghost use Rattle.std.specs.Prelude.{◌≡◌, ℕ, ◌+◌, ◌<◌, ◌≤◌, max};
+ghost use Rattle.std.specs.Prelude.{◌≡◌, ℕ, ◌+◌, ◌<◌, ◌≤◌, max, if◌then◌else◌, ◌==◌};
 ghost use Rattle.word.specs.Bits.{bits, bit};
-ghost use Rattle.word.specs.Word.{field, flag, digit_separator, base_prefix, base_suffix, mantissa_radix, radix_at, exponent_base, exponent_radix};
+ghost use Rattle.word.specs.Word.{field, flag, digit_separator, base_prefix, base_suffix, mantissa_radix, exponent_base, exponent_radix};
 ghost use Rattle.word.specs.Check.{valid_radix, valid_control_in, valid_control, valid_punctuation, valid_exponent_flags};
 
 use crate::ascii::is_valid_ascii;
 use crate::digit::char_is_digit_const;
 
 // The word's 128 bits in two halves; bit 0 is the lowest of `lo`, bit 64 the lowest of `hi`.
-#[derive(Clone, Copy)]
+#[derive(Clone, Copy, Debug, PartialEq, Eq)]
 pub struct Format {
     pub lo: u64,
     pub hi: u64,
@@ -142,33 +142,31 @@ pub fn base_suffix(format: Format) -> u8
 pub fn mantissa_radix(format: Format) -> u32
     ensures { result ≡ mantissa_radix format }
 {
-    byte_at(format, MANTISSA_RADIX_SHIFT) as u32
+    u32::from(byte_at(format, MANTISSA_RADIX_SHIFT))
 }
 
-// A radix that falls back on the mantissa radix where its field is 0.
-fn radix_from_flags(format: Format, shift: u32) -> u32
-    requires { (64 ≤ shift) × (shift < 128) }
-    ensures { result ≡ radix_at format shift }
+// A radix field's value, for which the mantissa radix stands in where it is 0.
+fn radix_or_mantissa(format: Format, radix: u8) -> u32
+    ensures { result ≡ (if radix == 0 then mantissa_radix format else radix) }
 {
-    let radix = byte_at(format, shift);
     let absent = radix == 0;
     if absent {
         mantissa_radix(format)
     } else {
-        radix as u32
+        u32::from(radix)
     }
 }
 
 pub fn exponent_base(format: Format) -> u32
     ensures { result ≡ exponent_base format }
 {
-    radix_from_flags(format, EXPONENT_BASE_SHIFT)
+    radix_or_mantissa(format, byte_at(format, EXPONENT_BASE_SHIFT))
 }
 
 pub fn exponent_radix(format: Format) -> u32
     ensures { result ≡ exponent_radix format }
 {
-    radix_from_flags(format, EXPONENT_RADIX_SHIFT)
+    radix_or_mantissa(format, byte_at(format, EXPONENT_RADIX_SHIFT))
 }
 
 pub fn is_valid_exponent_flags(format: Format) -> bool
@@ -187,43 +185,36 @@ pub(crate) fn is_valid_optional_control_radix(radix: u32, value: u8) -> bool
         & (is_valid_ascii(value) | (value == 0))
 }
 
-fn larger(a: u32, b: u32) -> u32
-    ensures { result ≡ max a b }
-{
-    if b < a { a } else { b }
-}
-
 // The larger of mantissa and exponent radix: its digits are those of both.
 pub(crate) fn larger_radix(format: Format) -> u32
     ensures { result ≡ max (mantissa_radix format) (exponent_radix format) }
 {
-    larger(mantissa_radix(format), exponent_radix(format))
+    mantissa_radix(format).max(exponent_radix(format))
 }
 
-// Whether the control byte at a position of the word is valid.
-fn is_valid_control_at(format: Format, shift: u32) -> bool
-    requires { (64 ≤ shift) × (shift < 128) }
-    ensures { result ≡ valid_control format (field format shift 8) }
+// Whether a byte may be a control byte of the word.
+fn is_valid_control(format: Format, value: u8) -> bool
+    ensures { result ≡ valid_control format value }
 {
-    is_valid_optional_control_radix(larger_radix(format), byte_at(format, shift))
+    is_valid_optional_control_radix(larger_radix(format), value)
 }
 
 pub fn is_valid_digit_separator(format: Format) -> bool
     ensures { result ≡ valid_control format (digit_separator format) }
 {
-    is_valid_control_at(format, DIGIT_SEPARATOR_SHIFT)
+    is_valid_control(format, digit_separator(format))
 }
 
 pub fn is_valid_base_prefix(format: Format) -> bool
     ensures { result ≡ valid_control format (base_prefix format) }
 {
-    is_valid_control_at(format, BASE_PREFIX_SHIFT)
+    is_valid_control(format, base_prefix(format))
 }
 
 pub fn is_valid_base_suffix(format: Format) -> bool
     ensures { result ≡ valid_control format (base_suffix format) }
 {
-    is_valid_control_at(format, BASE_SUFFIX_SHIFT)
+    is_valid_control(format, base_suffix(format))
 }
 
 // Two of the three are absent, or all three differ.

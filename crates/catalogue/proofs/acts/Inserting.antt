@@ -9,7 +9,7 @@ use Rattle.catalogue.specs.declared.entries.Entry.{Entry}
 use Rattle.catalogue.specs.Entries.{inserted, uses}
 use Rattle.catalogue.specs.Catalogue.{Catalogue, no_entry, listing, size, raised, with_entry}
 use Rattle.catalogue.specs.Block.{entry_words, words_of, catalogue_in}
-use Rattle.catalogue.specs.Code.Moves.{moved_up}
+use Rattle.std.specs.List.{copy_within}
 use Rattle.catalogue.specs.Code.Search.{before}
 use Rattle.catalogue.proofs.entries.Parts.{take-size, drop_of_take}
 use Rattle.catalogue.proofs.entries.Words.{words_back, places_64, words_append, words_take, words_drop, block_set, tally_at}
@@ -20,13 +20,14 @@ abbrev up_entries : ℕ → ℕ → List Entry → List Entry
 up_entries at len es = take (suc at) es ++ (take (len - at) (drop at es) ++ drop (suc len) es)
 
 up_words : (u t at len : ℕ) (es : List Entry) → at ≤ len
-    → moved_up (2 + 3 * at) (2 + 3 * len) (u ∷ t ∷ entry_words es) ≡ u ∷ t ∷ entry_words (up_entries at len es)
+    → copy_within (u ∷ t ∷ entry_words es) (2 + 3 * at) (2 + 3 * len) (2 + 3 * at + 3) ≡ u ∷ t ∷ entry_words (up_entries at len es)
 up_words u t at len es h =
     let above : 2 + 3 * at + 3 ≡ suc (suc (3 * suc at)) = omega arith in
     let many : 2 + 3 * len - (2 + 3 * at) ≡ 3 * (len - at) = omega arith in
-    let behind : 2 + 3 * len + 3 ≡ suc (suc (3 * suc len)) = omega arith in
+    let behind : 2 + 3 * at + 3 + (2 + 3 * len - (2 + 3 * at)) ≡ suc (suc (3 * suc len)) = omega arith in
     let here : 2 + 3 * at ≡ suc (suc (3 * at)) = omega arith in
-    rw (above, many, behind, here, words_take (suc at) es, words_drop at es, words_take (len - at) (drop at es), words_drop (suc len) es, ← words_append (take (len - at) (drop at es)) (drop (suc len) es), ← words_append (take (suc at) es) (take (len - at) (drop at es) ++ drop (suc len) es))
+    append_assoc (take (2 + 3 * at + 3) (u ∷ t ∷ entry_words es)) _ _
+    ∙ rw (behind, above, many, here, words_take (suc at) es, words_drop at es, words_take (len - at) (drop at es), words_drop (suc len) es, ← words_append (take (len - at) (drop at es)) (drop (suc len) es), ← words_append (take (suc at) es) (take (len - at) (drop at es) ++ drop (suc len) es))
 
 -- the place that they leave takes the entry
 put_there : (at len : ℕ) (e : Entry) (es : List Entry) → at < length es
@@ -59,7 +60,7 @@ module _ (c : Catalogue) (len at : ℕ) (e : Entry) (is-len : len ≡ size c) (p
 module _ (w w1 w2 : List ℕ) (len at more tally : ℕ) (e : Entry)
     (fits : length w ≡ 194) (is-len : len ≡ size (catalogue_in w)) (room : len < 64)
     (place : at ≡ before e.school (listing (catalogue_in w))) (within : at ≤ len)
-    (first : w1 ≡ moved_up (2 + 3 * at) (2 + 3 * len) w) (then : w2 ≡ sets w1 (2 + 3 * at) (entry_words (e ∷ [])))
+    (first : w1 ≡ copy_within w (2 + 3 * at) (2 + 3 * len) (2 + 3 * at + 3)) (then : w2 ≡ sets w1 (2 + 3 * at) (entry_words (e ∷ [])))
     (adding : more ≡ uses e.format) (kept : tally ≡ raised (get_or w 1 0) more) where
   abbrev c : Catalogue
   c = catalogue_in w
@@ -67,7 +68,7 @@ module _ (w w1 w2 : List ℕ) (len at more tally : ℕ) (e : Entry)
   behind_moves : w2 ≡ c.used ∷ c.tally ∷ entry_words (take at c.places ++ e ∷ (take (len - at) (drop at c.places) ++ drop (suc len) c.places))
   behind_moves =
       let moved : w1 ≡ c.used ∷ c.tally ∷ entry_words (up_entries at len c.places) =
-      first ∙ ap (λ (l : List ℕ). moved_up (2 + 3 * at) (2 + 3 * len) l) (sym (words_back w fits)) ∙ up_words c.used c.tally at len c.places within in
+      first ∙ ap (λ (l : List ℕ). copy_within l (2 + 3 * at) (2 + 3 * len) (2 + 3 * at + 3)) (sym (words_back w fits)) ∙ up_words c.used c.tally at len c.places within in
       let inside : at < length c.places = omega (arith, places_64 w fits) in
       then
       ∙ ap (λ (l : List ℕ). sets l (2 + 3 * at) (entry_words (e ∷ []))) moved

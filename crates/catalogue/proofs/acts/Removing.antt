@@ -1,4 +1,5 @@
 -- An entry taken out: what the words come to. Assumes nothing.
+use Rattle.std.specs.Prelude.{is_some}
 use mathlib.Core.Path.{◌≡◌, ◌∙◌, sym, ap}
 use mathlib.Core.Bool.{true}
 use mathlib.Core.List.{List, [], ◌∷◌, ◌++◌, append_assoc}
@@ -7,10 +8,10 @@ use native.Mathlib.Omega.{arith}
 use lib.ListN.{length, take, drop, get_or, set, length-append, length-drop}
 use lib.Seq.{sets, set_at, drop-cons, take-take, length-take-le}
 use Rattle.catalogue.specs.declared.entries.Entry.{Entry}
-use Rattle.catalogue.specs.Entries.{is_listed, without, uses}
+use Rattle.catalogue.specs.Entries.{without, uses}
 use Rattle.catalogue.specs.Catalogue.{Catalogue, no_entry, listing, size, word_in, removed}
 use Rattle.catalogue.specs.Block.{entry_words, words_of, catalogue_in}
-use Rattle.catalogue.specs.Code.Moves.{moved_down}
+use Rattle.std.specs.List.{copy_within}
 use Rattle.catalogue.specs.Code.Search.{before}
 use Rattle.catalogue.proofs.entries.Parts.{take-size, drop_of_take}
 use Rattle.catalogue.proofs.entries.Words.{words_back, places_64, words_append, words_take, words_drop, block_set, tally_at, listed_size}
@@ -21,13 +22,14 @@ abbrev down_entries : ℕ → ℕ → List Entry → List Entry
 down_entries at last es = take at es ++ (take (last - at) (drop (suc at) es) ++ drop last es)
 
 down_words : (u t at last : ℕ) (es : List Entry) → at ≤ last
-    → moved_down (2 + 3 * at) (2 + 3 * last) (u ∷ t ∷ entry_words es) ≡ u ∷ t ∷ entry_words (down_entries at last es)
+    → copy_within (u ∷ t ∷ entry_words es) (2 + 3 * at + 3) (2 + 3 * last + 3) (2 + 3 * at) ≡ u ∷ t ∷ entry_words (down_entries at last es)
 down_words u t at last es h =
     let above : 2 + 3 * at + 3 ≡ suc (suc (3 * suc at)) = omega arith in
-    let many : 2 + 3 * last - (2 + 3 * at) ≡ 3 * (last - at) = omega arith in
-    let behind : 2 + 3 * last ≡ suc (suc (3 * last)) = omega arith in
+    let many : 2 + 3 * last + 3 - (2 + 3 * at + 3) ≡ 3 * (last - at) = omega arith in
+    let behind : 2 + 3 * at + (2 + 3 * last + 3 - (2 + 3 * at + 3)) ≡ suc (suc (3 * last)) = omega arith in
     let here : 2 + 3 * at ≡ suc (suc (3 * at)) = omega arith in
-    rw (above, many, behind, here, words_take at es, words_drop (suc at) es, words_take (last - at) (drop (suc at) es), words_drop last es, ← words_append (take (last - at) (drop (suc at) es)) (drop last es), ← words_append (take at es) (take (last - at) (drop (suc at) es) ++ drop last es))
+    append_assoc (take (2 + 3 * at) (u ∷ t ∷ entry_words es)) _ _
+    ∙ rw (behind, many, above, here, words_take at es, words_drop (suc at) es, words_take (last - at) (drop (suc at) es), words_drop last es, ← words_append (take (last - at) (drop (suc at) es)) (drop last es), ← words_append (take at es) (take (last - at) (drop (suc at) es) ++ drop last es))
 
 -- the place that the last one leaves is freed
 free_there : (at last : ℕ) (e : Entry) (es : List Entry) → at ≤ last → last < length es
@@ -45,7 +47,7 @@ free_there at last e es h inside =
     ∙ append_assoc a b (e ∷ drop (suc last) es)
 
 -- which is what the definition leaves
-module _ (c : Catalogue) (len at n : ℕ) (is-len : len ≡ size c) (place : at ≡ before n (listing c)) (is : is_listed (word_in c n) ≡ true) where
+module _ (c : Catalogue) (len at n : ℕ) (is-len : len ≡ size c) (place : at ≡ before n (listing c)) (is : is_some (word_in c n) ≡ true) where
   abbrev es : List Entry
   es = c.places
 
@@ -71,8 +73,8 @@ module _ (c : Catalogue) (len at n : ℕ) (is-len : len ≡ size c) (place : at 
 -- THE WORDS of `take_out`, by what each of its steps promises
 module _ (w w1 w2 : List ℕ) (len at less tally n : ℕ) (gone : Entry)
     (fits : length w ≡ 194) (is-len : len ≡ size (catalogue_in w))
-    (place : at ≡ before n (listing (catalogue_in w))) (is : is_listed (word_in (catalogue_in w) n) ≡ true)
-    (first : w1 ≡ moved_down (2 + 3 * at) (2 + 3 * (len - 1)) w) (then : w2 ≡ sets w1 (2 + 3 * (len - 1)) (entry_words (no_entry ∷ [])))
+    (place : at ≡ before n (listing (catalogue_in w))) (is : is_some (word_in (catalogue_in w) n) ≡ true)
+    (first : w1 ≡ copy_within w (2 + 3 * at + 3) (2 + 3 * (len - 1) + 3) (2 + 3 * at)) (then : w2 ≡ sets w1 (2 + 3 * (len - 1)) (entry_words (no_entry ∷ [])))
     (out : gone ≡ get_or (catalogue_in w).places at no_entry) (taking : less ≡ uses gone.format) (kept : tally ≡ get_or w 1 0 - less) where
   abbrev c : Catalogue
   c = catalogue_in w
@@ -82,7 +84,7 @@ module _ (w w1 w2 : List ℕ) (len at less tally n : ℕ) (gone : Entry)
       let inside : at < len = omega (arith, listed_within c n at place is) in
       let few : len ≤ 64 = omega (arith, listed_size w fits) in
       let moved : w1 ≡ c.used ∷ c.tally ∷ entry_words (down_entries at (len - 1) c.places) =
-      first ∙ ap (λ (l : List ℕ). moved_down (2 + 3 * at) (2 + 3 * (len - 1)) l) (sym (words_back w fits)) ∙ down_words c.used c.tally at (len - 1) c.places (omega arith) in
+      first ∙ ap (λ (l : List ℕ). copy_within l (2 + 3 * at + 3) (2 + 3 * (len - 1) + 3) (2 + 3 * at)) (sym (words_back w fits)) ∙ down_words c.used c.tally at (len - 1) c.places (omega arith) in
       then
       ∙ ap (λ (l : List ℕ). sets l (2 + 3 * (len - 1)) (entry_words (no_entry ∷ []))) moved
       ∙ block_set c.used c.tally (down_entries at (len - 1) c.places) (len - 1) no_entry

@@ -2,19 +2,20 @@
 use mathlib.Core.Path.{◌≡◌, ◌∙◌, refl, sym, ap}
 use mathlib.Core.Bool.{Bool, true, false, cond}
 use mathlib.Core.List.{List, [], ◌∷◌, ◌++◌}
-use mathlib.Core.Option.{Option, some, none}
+use Rattle.std.specs.Prelude.{None, Option, Some, is_some}
 use Prim.Native.Nat.{ℕ, suc, ◌+◌, ◌≤◌, ◌<◌}
 use native.Mathlib.Omega.{arith}
 use lib.Dec.{eqb, ltb}
 use native.Mathlib.Numerals.{add-one}
-use borrow.Author.Tests.{lt-ltb, le-ltb, ltb-true, ltb-false}
+use borrow.Author.Tests.{eq-eqb, ne_eqb, lt-ltb, le-ltb, ltb-true, ltb-false}
 use lib.ListN.{length, take, drop, get_or, length-take, drop_of_length-le}
 use lib.Seq.{drop-cons, get_or-take}
+use Rattle.std.proofs.lemmas.Option.{slice_get-get_or, slice_get_past}
 use Rattle.word.specs.declared.format_flags.Format.{Format}
 use Rattle.catalogue.specs.declared.entries.Entry.{Entry}
-use Rattle.catalogue.specs.Entries.{look_up, is_listed, inserted, without}
-use Rattle.catalogue.specs.Catalogue.{Catalogue, no_entry, listing, size, word_in}
-use Rattle.catalogue.specs.Code.Search.{before, Passed}
+use Rattle.catalogue.specs.Entries.{look_up, inserted, without}
+use Rattle.catalogue.specs.Catalogue.{Catalogue, no_entry, listing, size, word_in, entry_in}
+use Rattle.catalogue.specs.Code.Search.{before, Passed, StandsAt, BelongsAt}
 
 pub before_within : (n : ℕ) (l : List Entry) → before n l ≤ length l
 before_within n [] = omega arith
@@ -36,30 +37,30 @@ inserted_at e (x ∷ l) = go (ltb x.school e.school) (inserted_at e l) where
 
 -- what is looked up there
 abbrev pub seen_at : ℕ → List Entry → Option Format
-seen_at n [] = none
-seen_at n (e ∷ rest) = cond (eqb e.school n) (some e.format) none
+seen_at n [] = None
+seen_at n (e ∷ rest) = cond (eqb e.school n) (Some e.format) None
 
 pub looked_up_at : (n : ℕ) (l : List Entry) → look_up n l ≡ seen_at n (drop (before n l) l)
 looked_up_at n [] = refl
 looked_up_at n (e ∷ l) = go (ltb e.school n) (looked_up_at n l) where
   go :
       (t : Bool) → look_up n l ≡ seen_at n (drop (before n l) l)
-      → cond t (look_up n l) (cond (eqb e.school n) (some e.format) none) ≡ seen_at n (drop (cond t (suc (before n l)) 0) (e ∷ l))
+      → cond t (look_up n l) (cond (eqb e.school n) (Some e.format) None) ≡ seen_at n (drop (cond t (suc (before n l)) 0) (e ∷ l))
   go true h = h
   go false h = refl
 
 -- a listed school's entry is taken out there
-pub without_at : (n : ℕ) (l : List Entry) → is_listed (look_up n l) ≡ true → without n l ≡ take (before n l) l ++ drop (suc (before n l)) l
-without_at n [] is = absurd (let z : ◌≡◌ {A = ℕ} 0 1 = cc in omega (arith, z))
+pub without_at : (n : ℕ) (l : List Entry) → is_some (look_up n l) ≡ true → without n l ≡ take (before n l) l ++ drop (suc (before n l)) l
+without_at n [] is = absurd cc
 without_at n (e ∷ l) is = go (ltb e.school n) (eqb e.school n) (without_at n l) is where
   go :
-      (t u : Bool) → (is_listed (look_up n l) ≡ true → without n l ≡ take (before n l) l ++ drop (suc (before n l)) l)
-      → is_listed (cond t (look_up n l) (cond u (some e.format) none)) ≡ true
+      (t u : Bool) → (is_some (look_up n l) ≡ true → without n l ≡ take (before n l) l ++ drop (suc (before n l)) l)
+      → is_some (cond t (look_up n l) (cond u (Some e.format) None)) ≡ true
       → cond t (e ∷ without n l) (cond u l (e ∷ l))
       ≡ take (cond t (suc (before n l)) 0) (e ∷ l) ++ drop (suc (cond t (suc (before n l)) 0)) (e ∷ l)
   go true u rest is = ap (λ (r : List Entry). e ∷ r) (rest is)
   go false true rest is = refl
-  go false false rest is = absurd (let z : ◌≡◌ {A = ℕ} 0 1 = cc in omega (arith, z))
+  go false false rest is = absurd cc
 
 -- the entry at a place of the listing is the one that stands there
 pub listed_here : (c : Catalogue) (i : ℕ) → i < size c → drop i (listing c) ≡ get_or c.places i no_entry ∷ drop (suc i) (listing c)
@@ -68,9 +69,6 @@ listed_here c i h =
     drop-cons (listing c) i no_entry h ∙ ap (λ (e : Entry). e ∷ drop (suc i) (listing c)) (get_or-take c.used c.places i no_entry inside)
 
 -- THE SEARCH, at each turn
-pub passed_none : (c : Catalogue) (n : ℕ) → Passed c n 0
-passed_none c n = record { within = omega arith; smaller = omega arith }
-
 module _ (c : Catalogue) (n at school : ℕ) (passed : Passed c n at) where
   pub passed_over : at < size c → school ≡ (get_or c.places at no_entry).school → school < n → Passed c n (at + 1)
   passed_over h here less =
@@ -85,41 +83,52 @@ module _ (c : Catalogue) (n at school : ℕ) (passed : Passed c n at) where
       let zero_here : before n (drop at (listing c)) ≡ 0 = rw (listed_here c at h, test) in
       omega (arith, passed.smaller, zero_here)
 
-  pub stops_last : size c ≤ at → at ≡ before n (listing c)
-  stops_last h =
-      let none_left : drop at (listing c) ≡ [] = drop_of_length-le (listing c) h in
-      let zero_here : before n (drop at (listing c)) ≡ 0 = rw none_left in
-      omega (arith, passed.smaller, zero_here)
-
 -- WHAT STANDS THERE
 module _ (c : Catalogue) (n at : ℕ) (place : at ≡ before n (listing c)) where
   looked_up_lem : word_in c n ≡ seen_at n (drop at (listing c))
   looked_up_lem = looked_up_at n (listing c) ∙ ap (λ (k : ℕ). seen_at n (drop k (listing c))) (sym place)
 
-  pub stands_there : at < size c → is_listed (word_in c n) ≡ eqb (get_or c.places at no_entry).school n
+  pub stands_there : at < size c → is_some (word_in c n) ≡ eqb (get_or c.places at no_entry).school n
   stands_there h = rw (looked_up_lem, listed_here c at h) (by_cases (eqb (get_or c.places at no_entry).school n)) where
-    by_cases : (t : Bool) → is_listed (cond t (some (get_or c.places at no_entry).format) none) ≡ t
+    by_cases : (t : Bool) → is_some (cond t (Some (get_or c.places at no_entry).format) None) ≡ t
     by_cases true = refl
     by_cases false = refl
 
-  pub stands_nowhere : size c ≤ at → is_listed (word_in c n) ≡ false
+  pub stands_nowhere : size c ≤ at → is_some (word_in c n) ≡ false
   stands_nowhere h = rw (looked_up_lem, drop_of_length-le (listing c) h)
 
   -- of a listed school
-  module _ (is : is_listed (word_in c n) ≡ true) where
+  module _ (is : is_some (word_in c n) ≡ true) where
     pub listed_within : at < size c
     listed_within = go (ltb at (size c)) refl where
       go : (t : Bool) → ltb at (size c) ≡ t → at < size c
       go true t = ltb-true at (size c) t
       go false t = absurd (let z : false ≡ true = sym (stands_nowhere (ltb-false at (size c) t)) ∙ is in let y : ◌≡◌ {A = ℕ} 0 1 = cc in omega (arith, y))
 
-    pub listed_word : word_in c n ≡ some (get_or c.places at no_entry).format
+    pub listed_word : word_in c n ≡ Some (get_or c.places at no_entry).format
     listed_word =
         let test : eqb (get_or c.places at no_entry).school n ≡ true = sym (stands_there listed_within) ∙ is in
         rw (looked_up_lem, listed_here c at listed_within, test)
 
-pub unlisted_word : (c : Catalogue) (n : ℕ) → is_listed (word_in c n) ≡ false → none ≡ word_in c n
-unlisted_word c n is = go (word_in c n) is where
-  go : (o : Option Format) → is_listed o ≡ false → none ≡ o
-  go none e = refl
-  go (some f) e = absurd (let z : ◌≡◌ {A = ℕ} 0 1 = cc in omega (arith, z))
+-- what the search tells
+module _ (c : Catalogue) (n at : ℕ) (place : at ≡ before n (listing c)) where
+  pub stands : (school : ℕ) → at < size c → school ≡ (get_or c.places at no_entry).school → school ≡ n → StandsAt c n at
+  stands school h here own =
+      record { within = h; place = place; listed = stands_there c n at place h ∙ eq-eqb _ _ (sym here ∙ own) }
+
+  pub stands_not : (school : ℕ) → at < size c → school ≡ (get_or c.places at no_entry).school → (school ≡ n → ⊥) → BelongsAt c n at
+  stands_not school h here other =
+      record { within = omega arith; place = place; unlisted = stands_there c n at place h ∙ ne_eqb _ _ (λ own. other (here ∙ own)) }
+
+  pub stands_last : size c ≡ at → BelongsAt c n at
+  stands_last last =
+      record { within = omega arith; place = place; unlisted = stands_nowhere c n at place (omega arith) }
+
+-- THE ENTRY that a listing has at a place
+pub row_listed : (c : Catalogue) (i : ℕ) → i < size c → Some (get_or c.places i no_entry) ≡ entry_in c i
+row_listed c i h =
+    let listed : i < c.used = omega (arith, length-take c.used c.places) in
+    ap Some (sym (get_or-take c.used c.places i no_entry listed)) ∙ sym (slice_get-get_or (listing c) i no_entry h)
+
+pub row_none : (c : Catalogue) (i : ℕ) → size c ≤ i → None ≡ entry_in c i
+row_none c i h = sym (slice_get_past (listing c) i h)

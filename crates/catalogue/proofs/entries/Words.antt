@@ -9,9 +9,6 @@ use Rattle.catalogue.specs.declared.entries.Entry.{Entry}
 use Rattle.catalogue.specs.Catalogue.{Catalogue, no_entry, size}
 use Rattle.catalogue.specs.Block.{entry_words, entries_in, words_of, catalogue_in}
 
-pub add_two : (k : ℕ) → k + 2 ≡ suc (suc k)
-add_two k = omega arith
-
 three : (k : ℕ) → 3 * suc k ≡ suc (suc (suc (3 * k)))
 three k = omega arith
 

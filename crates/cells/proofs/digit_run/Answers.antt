@@ -1,8 +1,8 @@
 -- A step of a digit run by the answers of the reader's calls, as the functions meet them. Assumes nothing.
+use Rattle.std.specs.Prelude.{Option, Some, None, Result}
 use mathlib.Core.Path.{◌≡◌, ◌∙◌, refl, sym, ap}
 use mathlib.Core.Bool.{Bool, true, false, cond, ◌&&◌, ◌||◌}
 use mathlib.Core.List.{List}
-use mathlib.Core.Option.{Option, some, none}
 use Prim.Native.Nat.{ℕ, ◌+◌, ◌-◌, ◌≤◌, ◌<◌}
 use native.Mathlib.Omega.{arith}
 use borrow.Author.Tests.{ltb-true, ltb-false}
@@ -13,15 +13,13 @@ use Rattle.reader.specs.declared.state.Reader.{Reader}
 use Rattle.reader.specs.declared.state.Reader.TheVariants.{Integer, Fraction, Exponent, Special}
 use Rattle.reader.specs.declared.state.State.{State}
 use Rattle.reader.specs.declared.passing.Syntax.{Syntax}
-use Rattle.reader.specs.declared.skip.Seen.{Seen}
-use Rattle.reader.specs.declared.skip.Seen.TheVariants as sight
-use Rattle.reader.specs.declared.skip.Answer.{Answer}
-use Rattle.reader.specs.declared.skip.Peeked.{Peeked}
+use Rattle.reader.specs.declared.state.Refusal.{Refusal}
+use Rattle.reader.specs.declared.answer.Answer.{Answer}
 use Rattle.reader.specs.Place.{byte_at}
 use Rattle.reader.specs.Reading.{Reading, syntax_for, syntax_on, reading_with, reading_for, has_any_flag, passed_at}
 use Rattle.reader.specs.State.{Sheet, sheet_of, count_of, moved_to}
 use Rattle.reader.specs.Code.TakeSums.{with_count}
-use Rattle.reader.specs.Answer.{Outcome, outcome_of, peek_outcome_of, seen_byte}
+use Rattle.reader.specs.Answer.{Outcome, outcome_of, found_in}
 use Rattle.reader.specs.Calls.{peek_of, next_of}
 use Rattle.reader.proofs.passing.Places.{byte_here, no_byte, no_separator}
 use Rattle.reader.proofs.passing.Landings.{stays_on_other, stays_at_end}
@@ -48,26 +46,26 @@ take_fits m s st r over before in_Buffer =
     let step = take_step (λ q. m) s st r in omega (arith, before, step.cursor, step.inside in_Buffer)
 
 -- a take's answer as a step
-module _ (took : Answer) (r : Reader) (over : ℕ) (o : Outcome) (told : outcome_of took ≡ o) where
-  pub step_taken : (c : ℕ) → took.report.seen ≡ sight.Byte c → (behind : ℕ) → behind ≡ count_of took.state r
+module _ (took : Answer (Result (Option ℕ) Refusal)) (r : Reader) (over : ℕ) (o : Outcome) (told : outcome_of took ≡ o) where
+  pub step_taken : (c : ℕ) → found_in took.report.found ≡ Some c → (behind : ℕ) → behind ≡ count_of took.state r
       → step.Taken c took.state.cursor behind (over + took.report.passed) ≡ step_behind r over o
   step_taken c e behind counts =
-      let one : step.Taken c took.state.cursor behind (over + took.report.passed) ≡ step_of_byte (some c) r over (outcome_of took) = rw counts in
-      let known : step_of_byte (seen_byte took.report.seen) r over (outcome_of took) ≡ step_of_byte (some c) r over (outcome_of took) =
-      ap (λ (b : Option ℕ). step_of_byte b r over (outcome_of took)) (ap seen_byte e) in
+      let one : step.Taken c took.state.cursor behind (over + took.report.passed) ≡ step_of_byte (Some c) r over (outcome_of took) = rw counts in
+      let known : step_of_byte (found_in took.report.found) r over (outcome_of took) ≡ step_of_byte (Some c) r over (outcome_of took) =
+      ap (λ (b : Option ℕ). step_of_byte b r over (outcome_of took)) e in
       one ∙ sym known ∙ ap (step_behind r over) told
 
-  pub step_over : seen_byte took.report.seen ≡ none → step.Over took.state.cursor (over + took.report.passed) ≡ step_behind r over o
+  pub step_over : found_in took.report.found ≡ None → step.Over took.state.cursor (over + took.report.passed) ≡ step_behind r over o
   step_over e =
-      let known : step_of_byte (seen_byte took.report.seen) r over (outcome_of took) ≡ step_of_byte none r over (outcome_of took) =
+      let known : step_of_byte (found_in took.report.found) r over (outcome_of took) ≡ step_of_byte None r over (outcome_of took) =
       ap (λ (b : Option ℕ). step_of_byte b r over (outcome_of took)) e in
       sym known ∙ ap (step_behind r over) told
 
 -- what the digit test says of a byte that was seen
-pub sees_digit_lem : (x : Syntax) (o : Seen) (b : ℕ) → o ≡ sight.Byte b → (d : Bool) → d ≡ is_digit b x.radix → (t : Bool) → d ≡ t
-    → sees_digit (reading_with x) (seen_byte o) ≡ t
+pub sees_digit_lem : (x : Syntax) (o : Option ℕ) (b : ℕ) → o ≡ Some b → (d : Bool) → d ≡ is_digit b x.radix → (t : Bool) → d ≡ t
+    → sees_digit (reading_with x) o ≡ t
 unfolding reading_with
-sees_digit_lem x o b e d is t known = ap (λ (y : Seen). sees_digit (reading_with x) (seen_byte y)) e ∙ sym is ∙ known
+sees_digit_lem x o b e d is t known = ap (sees_digit (reading_with x)) e ∙ sym is ∙ known
 
 -- what a step is told of, by its case
 module _ (m : Reading) (s : List ℕ) (r : Reader) (st : State) (at count : ℕ) (one : Step) (told : StepTold m s r st at count one) where
@@ -112,15 +110,15 @@ module _ (x : Syntax) (s : List ℕ) (r : Reader) (st : State) where
           rw (takes_none m s r st place count on to refl out, at_cursor st r to count) (ends_behind m s r st at count stands place refl digit to refl out)
 
     -- a peek's answer from there
-    module _ (own : x ≡ syntax_for st r) (from : State) (is : from ≡ state_at st r at count) (seen : Peeked) (peeks : peek_outcome_of seen ≡ peek_of (reading_for from r) s from r) where
-      answered : peek_outcome_of seen ≡ record { refusal = 0; byte = byte_at s place; taken = 0; passed = place - at; state = state_at st r place count }
+    module _ (own : x ≡ syntax_for st r) (from : State) (is : from ≡ state_at st r at count) (seen : Answer (Result (Option ℕ) Refusal)) (peeks : outcome_of seen ≡ peek_of (reading_for from r) s from r) where
+      answered : outcome_of seen ≡ record { refusal = 0; byte = byte_at s place; taken = 0; passed = place - at; state = state_at st r place count }
       answered =
           peeks
           ∙ ap (λ (h : State). peek_of (reading_for h r) s h r) is
           ∙ ap (λ (y : Reading). peek_of y s (state_at st r at count) r) (as_own own at count)
           ∙ sees m s r st at count stands place refl
 
-      byte_seen : seen_byte seen.report.seen ≡ byte_at s place
+      byte_seen : found_in seen.report.found ≡ byte_at s place
       byte_seen = ap (λ (o : Outcome). o.byte) answered
 
       passed_seen : seen.report.passed ≡ place - at
@@ -135,12 +133,12 @@ module _ (x : Syntax) (s : List ℕ) (r : Reader) (st : State) where
           (omega (arith, at_place, passed_seen), omega (arith, at_place, place_inside m s r st at count stands place refl))
 
       -- no digit is seen
-      pub told_over : sees_digit m (seen_byte seen.report.seen) ≡ false → Ends m s r st at count seen.state.cursor seen.report.passed
+      pub told_over : sees_digit m (found_in seen.report.found) ≡ false → Ends m s r st at count seen.state.cursor seen.report.passed
       told_over other =
           rw (left, at_cursor st r place count, passed_seen) (ends m s r st at count stands place refl (rw byte_seen at other))
 
       -- a digit is seen, and the take goes from there
-      pub told_taken : sees_digit m (seen_byte seen.report.seen) ≡ true → (step : Step)
+      pub told_taken : sees_digit m (found_in seen.report.found) ≡ true → (step : Step)
           → step ≡ step_behind r seen.report.passed (next_of (reading_for seen.state r) s seen.state r) → StepTold m s r st at count step
       told_taken digit step took =
           let same : step ≡ step_behind r (place - at) (next_of m s (state_at st r place count) r) = rw (left, as_own own place count, passed_seen) at took in

@@ -1,8 +1,8 @@
 -- A step of a digit run from a place with a count, over any reading: where it ends the run, and what it takes. Assumes nothing.
+use Rattle.std.specs.Prelude.{Option, Some, None}
 use mathlib.Core.Path.{◌≡◌, refl}
 use mathlib.Core.Bool.{Bool, true, false, cond, ◌&&◌}
 use mathlib.Core.List.{List, []}
-use mathlib.Core.Option.{Option, some, none}
 use Prim.Native.Nat.{ℕ, zero, suc, ◌+◌, ◌-◌, ◌≤◌, ◌<◌}
 use native.Mathlib.Omega.{arith}
 use lib.Dec.{eqb}
@@ -34,8 +34,8 @@ sum_stays st Special at to count = refl
 pub digit_inside : (m : Reading) (s : List ℕ) (at : ℕ) → sees_digit m (byte_at s at) ≡ true → at < length s
 digit_inside m s at = go (byte_at s at) refl where
   go : (o : Option ℕ) → byte_at s at ≡ o → sees_digit m o ≡ true → at < length s
-  go none e h = absurd (let z : ◌≡◌ {A = ℕ} 0 1 = cc in omega arith)
-  go (some b) e h = byte_inside s at b e
+  go None e h = absurd (let z : ◌≡◌ {A = ℕ} 0 1 = cc in omega arith)
+  go (Some b) e h = byte_inside s at b e
 
 -- the count behind a byte
 abbrev pub count_behind : Reading → ℕ → ℕ → ℕ
@@ -71,12 +71,12 @@ module _ (m : Reading) (s : List ℕ) (r : Reader) (st : State) where
     -- a take from there
     pub takes_byte : (to : ℕ) → to ≡ at + passed_at m s (eqb count 0) at → to < length s
         → next_of m s (state_at st r at count) r
-        ≡ record { refusal = 0; byte = some (get_or s to 0); taken = 1; passed = to - at; state = state_at st r (to + 1) (count_behind m (get_or s to 0) count) }
+        ≡ record { refusal = 0; byte = Some (get_or s to 0); taken = 1; passed = to - at; state = state_at st r (to + 1) (count_behind m (get_or s to 0) count) }
     unfolding next_of
     takes_byte to lands h = rw (sees to lands, byte_here s to h, taken_to to (get_or s to 0) count)
 
     pub takes_none : (to : ℕ) → to ≡ at + passed_at m s (eqb count 0) at → length s ≤ to
-        → next_of m s (state_at st r at count) r ≡ record { refusal = 0; byte = none; taken = 0; passed = to - at; state = state_at st r to count }
+        → next_of m s (state_at st r at count) r ≡ record { refusal = 0; byte = None; taken = 0; passed = to - at; state = state_at st r to count }
     unfolding next_of
     takes_none to lands out = rw (sees to lands, no_byte s to out)
 

@@ -1,6 +1,5 @@
 -- A run on plain numbers (src/digit_run.rt): its steps from a place with a count. Assumes nothing.
-use Rattle.std.specs.Prelude.{◌≡◌, Bool, true, cond, not, ◌&&◌, List, [], ◌∷◌, ℕ, suc, ◌+◌, ◌≤◌, eqb, length, get_or}
-use Rattle.std.proofs.Math.Option.{Option, some, none}
+use Rattle.std.specs.Prelude.{◌≡◌, Bool, true, cond, not, ◌&&◌, List, [], ◌∷◌, ℕ, suc, ◌+◌, ◌≤◌, eqb, length, get_or, Option, Some, None}
 use Rattle.reader.specs.declared.state.Reader.{Reader}
 use Rattle.reader.specs.declared.state.State.{State}
 use Rattle.reader.specs.declared.passing.Syntax.{Syntax}
@@ -20,8 +19,8 @@ digit_then c over rest = record { digits = c ∷ rest.digits; passed = over + re
 
 -- what a take behind a peek comes to as a step: a byte, with the place and the count behind it, or none
 abbrev pub step_of_byte : Option ℕ → Reader → ℕ → Outcome → Step
-step_of_byte none r over o = step.Over o.state.cursor (over + o.passed)
-step_of_byte (some c) r over o = step.Taken c o.state.cursor (count_of o.state r) (over + o.passed)
+step_of_byte None r over o = step.Over o.state.cursor (over + o.passed)
+step_of_byte (Some c) r over o = step.Taken c o.state.cursor (count_of o.state r) (over + o.passed)
 
 abbrev pub step_behind : Reader → ℕ → Outcome → Step
 step_behind r over o = step_of_byte o.byte r over o
@@ -40,7 +39,7 @@ still_refused x c over count = ((x.flags.consecutive && eqb c x.separator) && eq
 -- a run that is over, by its numbers
 abbrev pub ended_run : State → ℕ → ℕ → ℕ → State → RunOutcome
 ended_run st v taken passed end =
-    cond (eqb taken 0) (refused_run 23 st) (record { refusal = 0; value = some v; taken = taken; passed = passed; state = end })
+    cond (eqb taken 0) (refused_run 23 st) (record { refusal = 0; value = Some v; taken = taken; passed = passed; state = end })
 
 module _ (m : Reading) (s : List ℕ) (r : Reader) (st : State) where
   -- the state at a place with a count, and the run from there

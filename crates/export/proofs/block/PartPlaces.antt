@@ -1,9 +1,9 @@
 -- The place and the length that `pawhetino_take_n` writes are those of the block: the bytes of the buffer there are the reader's part, and
 -- none where there is no block. Assumes nothing.
+use Rattle.std.specs.Prelude.{Option, Some, None}
 use mathlib.Core.Path.{◌≡◌, refl}
 use mathlib.Core.Bool.{Bool, true, false}
 use mathlib.Core.List.{List, []}
-use mathlib.Core.Option.{Option, some, none}
 use Prim.Native.Nat.{ℕ}
 use lib.Dec.{eqb}
 use lib.ListN.{take, drop, get_or}
@@ -40,5 +40,5 @@ unfolding block_taken_by part_taken_by
 part_told n w s k old = go (reader_on n (get_or w 7 0)) refl where
   go : (who : Option Reader) → reader_on n (get_or w 7 0) ≡ who
       → bytes_at s (block_words old (state_in w).cursor (block_taken_by n w s k)) ≡ part_taken_by n w s k
-  go none e = rw e
-  go (some r) e = rw e (reader_part (reading_for (state_in w) r) s (state_in w) r k old)
+  go None e = rw e
+  go (Some r) e = rw e (reader_part (reading_for (state_in w) r) s (state_in w) r k old)

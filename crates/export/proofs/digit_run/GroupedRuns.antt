@@ -2,7 +2,7 @@
 use mathlib.Core.Path.{◌≡◌, refl, sym}
 use mathlib.Core.Bool.{Bool, true, false, cond, and-eq-true_iff}
 use mathlib.Core.List.{List}
-use mathlib.Core.Option.{some, none}
+use Rattle.std.specs.Prelude.{Some, None}
 use Prim.Native.Nat.{ℕ, ◌+◌, ◌*◌, ◌-◌, ◌<◌, ◌≤◌, ◌^◌, min}
 use native.Mathlib.Nat.{add-zero}
 use native.Mathlib.Omega.{arith}
@@ -31,7 +31,7 @@ use Rattle.export.proofs.DigitBehind.{lands_between}
 use Rattle.export.proofs.FreshCells.{fresh_clear}
 
 -- a decimal digit is a figure
-figure_value : (c : ℕ) → is_digit c 10 ≡ true → ((48 ≤ c) × (c ≤ 57)) × (digit_value c ≡ some (c - 48))
+figure_value : (c : ℕ) → is_digit c 10 ≡ true → ((48 ≤ c) × (c ≤ 57)) × (digit_value c ≡ Some (c - 48))
 unfolding is_digit digit_value
 figure_value c = go (among 48 57 c) (among 65 90 c) (among 97 122 c) refl refl refl where
   inside : among 48 57 c ≡ true → (48 ≤ c) × (c ≤ 57)
@@ -43,8 +43,8 @@ figure_value c = go (among 48 57 c) (among 65 90 c) (among 97 122 c) refl refl r
   not_below n high h = omega (arith, ltb-true n 10 h)
 
   go : (t u v : Bool) → among 48 57 c ≡ t → among 65 90 c ≡ u → among 97 122 c ≡ v
-      → below (cond t (some (c - 48)) (cond u (some (c - 65 + 10)) (cond v (some (c - 97 + 10)) none))) 10 ≡ true
-      → ((48 ≤ c) × (c ≤ 57)) × (cond t (some (c - 48)) (cond u (some (c - 65 + 10)) (cond v (some (c - 97 + 10)) none)) ≡ some (c - 48))
+      → below (cond t (Some (c - 48)) (cond u (Some (c - 65 + 10)) (cond v (Some (c - 97 + 10)) None))) 10 ≡ true
+      → ((48 ≤ c) × (c ≤ 57)) × (cond t (Some (c - 48)) (cond u (Some (c - 65 + 10)) (cond v (Some (c - 97 + 10)) None)) ≡ Some (c - 48))
   go true u v e f g h = (inside e, refl)
   go false true v e f g h = absurd (not_below (c - 65 + 10) (omega arith) h)
   go false false true e f g h = absurd (not_below (c - 97 + 10) (omega arith) h)
@@ -100,16 +100,16 @@ module _ (separator : ℕ) (s : List ℕ) (x : Syntax) (f : Format) (r : Reader)
 
     -- another byte, or the end
     ends : (at ≡ 0 → ⊥) → Ends (reading_with x) s r (fresh_of f) at count at 0
-        → record { refusal = 0; value = some value; taken = count; passed = passed; state = state_at (fresh_of f) r at count } ≡ digit_run_of x s (fresh_of f) r
+        → record { refusal = 0; value = Some value; taken = count; passed = passed; state = state_at (fresh_of f) r at count } ≡ digit_run_of x s (fresh_of f) r
     ends begun last =
         let counted : eqb count 0 ≡ false = ne_eqb count 0 (λ z. begun (omega (arith, z, few))) in
         rw (counted, add-zero passed) at (running_over x s r (fresh_of f) clear at count value count passed false here at 0 last)
 
     pub grouped_stops : (at ≡ 0 → ⊥) → at < length s → (get_or s at 0 ≡ separator → ⊥) → is_digit (get_or s at 0) 10 ≡ false
-        → record { refusal = 0; value = some value; taken = count; passed = passed; state = state_at (fresh_of f) r at count } ≡ digit_run_of x s (fresh_of f) r
+        → record { refusal = 0; value = Some value; taken = count; passed = passed; state = state_at (fresh_of f) r at count } ≡ digit_run_of x s (fresh_of f) r
     grouped_stops begun inside differ other =
         ends begun (plain_over x s r (fresh_of f) at count here.stands inside (passes_none (eqb count 0) at inside differ) (rw b.own_radix other))
 
     pub grouped_out : (at ≡ 0 → ⊥) → length s ≤ at
-        → record { refusal = 0; value = some value; taken = count; passed = passed; state = state_at (fresh_of f) r at count } ≡ digit_run_of x s (fresh_of f) r
+        → record { refusal = 0; value = Some value; taken = count; passed = passed; state = state_at (fresh_of f) r at count } ≡ digit_run_of x s (fresh_of f) r
     grouped_out begun out = ends begun (end_over x s r (fresh_of f) at count here.stands out)

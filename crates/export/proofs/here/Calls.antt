@@ -1,9 +1,9 @@
 -- What the calls of one byte answer where a reader that counts sees a byte that is no separator, or the end, and the words that they
 -- write: for their quick ways. Assumes nothing.
+use Rattle.std.specs.Prelude.{Option, Some, None}
 use mathlib.Core.Path.{◌≡◌, ◌∙◌, refl, sym, ap}
 use mathlib.Core.Bool.{Bool, true, false, cond, ◌&&◌}
 use mathlib.Core.List.{List, [], ◌∷◌}
-use mathlib.Core.Option.{Option, some, none}
 use Prim.Native.Nat.{ℕ, zero, suc, ◌+◌, ◌/◌, ◌^◌, ◌<◌}
 use lib.ListN.{length, get_or}
 use borrow.Author.Tests.{le-leb}
@@ -26,7 +26,7 @@ use Rattle.export.proofs.here.CountedReaders.{counted_reader, named_on, own_flag
 use Rattle.export.proofs.here.Sight.{Sight}
 
 -- a call that answers no byte is not made again
-until_none_lem : (n : ℕ) (call : State → Outcome) (o : Outcome) → o.byte ≡ none → until_none n call o ≡ []
+until_none_lem : (n : ℕ) (call : State → Outcome) (o : Outcome) → o.byte ≡ None → until_none n call o ≡ []
 unfolding until_none
 until_none_lem zero call o e = refl
 until_none_lem (suc n) call o e = rw e
@@ -42,7 +42,7 @@ module _ (n : ℕ) (w s : List ℕ) (seen : Option ℕ) (here : Sight n w s seen
   abbrev f : Format
   f = (state_in w).format
 
-  by : reader_on n (get_or w 7 0) ≡ some r
+  by : reader_on n (get_or w 7 0) ≡ Some r
   by = named_on n (get_or w 7 0) here.low here.edition
 
   peek_here : peek_of (reading_for (state_in w) r) s (state_in w) r ≡ seen_at w seen
@@ -53,19 +53,19 @@ module _ (n : ℕ) (w s : List ℕ) (seen : Option ℕ) (here : Sight n w s seen
   peeked_here = rw (by, peek_here)
 
 -- at the end a take and a read answer what a peek does
-module _ (n : ℕ) (w s : List ℕ) (here : Sight n w s none) where
-  pub taken_end : taken_by n w s ≡ seen_at w none
+module _ (n : ℕ) (w s : List ℕ) (here : Sight n w s None) where
+  pub taken_end : taken_by n w s ≡ seen_at w None
   unfolding taken_by next_of
-  taken_end = rw (by n w s none here, peek_here n w s none here)
+  taken_end = rw (by n w s None here, peek_here n w s None here)
 
-  pub read_end : (wanted : ℕ → Bool) → read_by n w s wanted ≡ record { outcome = seen_at w none; seen = none }
+  pub read_end : (wanted : ℕ → Bool) → read_by n w s wanted ≡ record { outcome = seen_at w None; seen = None }
   unfolding read_by read_if_of
-  read_end wanted = rw (by n w s none here, peek_here n w s none here)
+  read_end wanted = rw (by n w s None here, peek_here n w s None here)
 
 -- a byte
-module _ (n : ℕ) (w s : List ℕ) (b : ℕ) (here : Sight n w s (some b)) where
+module _ (n : ℕ) (w s : List ℕ) (b : ℕ) (here : Sight n w s (Some b)) where
   abbrev own : Reader
-  own = r n w s (some b) here
+  own = r n w s (Some b) here
 
   -- whether it is counted
   abbrev counted : Bool
@@ -78,9 +78,9 @@ module _ (n : ℕ) (w s : List ℕ) (b : ℕ) (here : Sight n w s (some b)) wher
   unfolding reading_with syntax_on syntax_of
   state_past = refl
 
-  taken_byte : taken_by n w s ≡ record { refusal = 0; byte = some b; taken = 1; passed = 0; state = past counted }
+  taken_byte : taken_by n w s ≡ record { refusal = 0; byte = Some b; taken = 1; passed = 0; state = past counted }
   unfolding taken_by next_of
-  taken_byte = rw (by n w s (some b) here, peek_here n w s (some b) here, state_past)
+  taken_byte = rw (by n w s (Some b) here, peek_here n w s (Some b) here, state_past)
 
   -- the words that a take writes
   pub next_words : (old : List ℕ) (up : Bool) → up ≡ (has_any_flag (own_flags (get_or w 0 0 / 2 ^ n)) && is_digit b (mantissa_radix (state_in w).format)) → get_or w 0 0 < 2 ^ 64
@@ -93,13 +93,13 @@ module _ (n : ℕ) (w s : List ℕ) (b : ℕ) (here : Sight n w s (some b)) wher
 
   -- a read of a byte that is wanted, and of one that is not
   pub read_taken : (wanted : ℕ → Bool) → wanted b ≡ true
-      → read_by n w s wanted ≡ record { outcome = record { refusal = 0; byte = some b; taken = 1; passed = 0; state = moved_to (state_in w) (get_or w 2 0 + 1) }; seen = some b }
+      → read_by n w s wanted ≡ record { outcome = record { refusal = 0; byte = Some b; taken = 1; passed = 0; state = moved_to (state_in w) (get_or w 2 0 + 1) }; seen = Some b }
   unfolding read_by read_if_of
-  read_taken wanted holds = rw (by n w s (some b) here, peek_here n w s (some b) here, holds)
+  read_taken wanted holds = rw (by n w s (Some b) here, peek_here n w s (Some b) here, holds)
 
-  pub read_declined_lem : (wanted : ℕ → Bool) → wanted b ≡ false → read_by n w s wanted ≡ record { outcome = seen_at w none; seen = some b }
+  pub read_declined_lem : (wanted : ℕ → Bool) → wanted b ≡ false → read_by n w s wanted ≡ record { outcome = seen_at w None; seen = Some b }
   unfolding read_by read_if_of
-  read_declined_lem wanted fails = rw (by n w s (some b) here, peek_here n w s (some b) here, fails)
+  read_declined_lem wanted fails = rw (by n w s (Some b) here, peek_here n w s (Some b) here, fails)
 
 -- a zero skip that finds no zero
 module _ (n : ℕ) (w s : List ℕ) (seen : Option ℕ) (here : Sight n w s seen) where
@@ -116,17 +116,17 @@ module _ (n : ℕ) (w s : List ℕ) (seen : Option ℕ) (here : Sight n w s seen
       ap is_consecutive_alone ((counted_reader n here.low).flags (state_in w).format) ∙ here.alone in
       rw (le-leb (get_or w 2 0) (length s) here.within, le-leb (count_sum (state_in w)) (get_or w 2 0) here.fit, (counted_reader n here.low).counts, alone) refl
 
-  pub skipped_none : zero_read_of reading s who (state_in w) ≡ seen_at w none
-      → skipped_by n w s ≡ record { refusal = 0; zeros = some 0; taken = 0; passed = 0; state = state_in w }
+  pub skipped_none : zero_read_of reading s who (state_in w) ≡ seen_at w None
+      → skipped_by n w s ≡ record { refusal = 0; zeros = Some 0; taken = 0; passed = 0; state = state_in w }
   unfolding skipped_by skip_zeros_of
-  skipped_none first = rw (by n w s seen here, skips, first, until_none_lem (length s) (zero_read_of reading s who) (seen_at w none) refl)
+  skipped_none first = rw (by n w s seen here, skips, first, until_none_lem (length s) (zero_read_of reading s who) (seen_at w None) refl)
 
-pub skipped_end : (n : ℕ) (w s : List ℕ) (here : Sight n w s none)
-    → skipped_by n w s ≡ record { refusal = 0; zeros = some 0; taken = 0; passed = 0; state = state_in w }
+pub skipped_end : (n : ℕ) (w s : List ℕ) (here : Sight n w s None)
+    → skipped_by n w s ≡ record { refusal = 0; zeros = Some 0; taken = 0; passed = 0; state = state_in w }
 unfolding zero_read_of read_if_of
-skipped_end n w s here = skipped_none n w s none here (rw (peek_here n w s none here))
+skipped_end n w s here = skipped_none n w s None here (rw (peek_here n w s None here))
 
-pub skipped_other : (n : ℕ) (w s : List ℕ) (b : ℕ) (here : Sight n w s (some b)) → is_zero b ≡ false
-    → skipped_by n w s ≡ record { refusal = 0; zeros = some 0; taken = 0; passed = 0; state = state_in w }
+pub skipped_other : (n : ℕ) (w s : List ℕ) (b : ℕ) (here : Sight n w s (Some b)) → is_zero b ≡ false
+    → skipped_by n w s ≡ record { refusal = 0; zeros = Some 0; taken = 0; passed = 0; state = state_in w }
 unfolding zero_read_of read_if_of
-skipped_other n w s b here other = skipped_none n w s (some b) here (rw (peek_here n w s (some b) here, other))
+skipped_other n w s b here other = skipped_none n w s (Some b) here (rw (peek_here n w s (Some b) here, other))

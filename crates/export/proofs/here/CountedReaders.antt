@@ -1,9 +1,9 @@
 -- The three readers that count, by their numbers: their flags in the lower half, and the words that a count of theirs changes: for the
 -- quick ways. Assumes nothing.
+use Rattle.std.specs.Prelude.{Some}
 use mathlib.Core.Path.{◌≡◌, ◌∙◌, refl, ap}
 use mathlib.Core.Bool.{Bool, true, false, cond}
 use mathlib.Core.List.{List, [], ◌∷◌}
-use mathlib.Core.Option.{some}
 use Prim.Native.Nat.{ℕ, zero, suc, ◌+◌, ◌/◌, ◌%◌, ◌^◌, ◌<◌, ◌≤◌}
 use native.Mathlib.Omega.{arith}
 use lib.Dec.{eqb}
@@ -24,7 +24,7 @@ use Rattle.export.specs.Code.Here.{own_flags, words_at}
 
 pub record CountedReader (n : ℕ) : Type 0 where
   pub reader : Reader
-  pub named : reader_named n ≡ some reader
+  pub named : reader_named n ≡ Some reader
   pub flags : (f : Format) → flags_of f reader ≡ flags_at f n
   pub counts : is_counted reader ≡ true
 
@@ -36,7 +36,7 @@ counted_reader (suc (suc zero)) h = record { reader = Exponent; named = refl; fl
 counted_reader (suc (suc (suc n))) h = absurd (omega (arith, h))
 
 -- it is the one that the byte names on a known edition
-pub named_on : (n edition : ℕ) (low : n ≤ 2) → is_edition edition ≡ true → reader_on n edition ≡ some (counted_reader n low).reader
+pub named_on : (n edition : ℕ) (low : n ≤ 2) → is_edition edition ≡ true → reader_on n edition ≡ Some (counted_reader n low).reader
 unfolding reader_on
 named_on n edition low known = rw known (counted_reader n low).named
 

@@ -1,8 +1,8 @@
 -- What a peek sees where nothing is passed, and what is known there from what `found_here` found: for the quick ways. Assumes nothing.
+use Rattle.std.specs.Prelude.{Option, Some, None}
 use mathlib.Core.Path.{◌≡◌, ◌∙◌, refl, sym, ap}
 use mathlib.Core.Bool.{Bool, true, false, cond, not, ◌&&◌, and-eq-true_iff}
 use mathlib.Core.List.{List}
-use mathlib.Core.Option.{Option, some, none}
 use Prim.Native.Nat.{ℕ, ◌<◌, ◌≤◌}
 use native.Mathlib.Nat.{add-zero}
 use native.Mathlib.Omega.{arith}
@@ -42,12 +42,12 @@ module _ (x : Syntax) (s : List ℕ) (st : State) (r : Reader) (alone : is_conse
   looks none_passed = rw (none_passed, add-zero st.cursor) refl
 
   pub sees_byte : st.cursor < length s → (get_or s st.cursor 0 ≡ x.separator → ⊥)
-      → peek_of (reading_with x) s st r ≡ record { refusal = 0; byte = some (get_or s st.cursor 0); taken = 0; passed = 0; state = st }
+      → peek_of (reading_with x) s st r ≡ record { refusal = 0; byte = Some (get_or s st.cursor 0); taken = 0; passed = 0; state = st }
   sees_byte inside differ =
       let stays = stays_on_other x s (eqb (count_of st r) 0) st.cursor inside (no_separator x.separator _ differ) in
       admitted (omega (arith, inside)) ∙ looks (omega (arith, stays)) ∙ rw (byte_here s st.cursor inside)
 
-  pub sees_end : length s ≡ st.cursor → peek_of (reading_with x) s st r ≡ record { refusal = 0; byte = none; taken = 0; passed = 0; state = st }
+  pub sees_end : length s ≡ st.cursor → peek_of (reading_with x) s st r ≡ record { refusal = 0; byte = None; taken = 0; passed = 0; state = st }
   sees_end out =
       let stays = stays_at_end x s (eqb (count_of st r) 0) st.cursor (omega (arith, out)) in
       admitted (omega (arith, out)) ∙ looks (omega (arith, stays)) ∙ rw (no_byte s st.cursor (omega (arith, out)))
@@ -146,13 +146,13 @@ module _ (n : ℕ) (w s : List ℕ) (here : Here) (found : here ≡ here_of n w 
         omega (arith, within, more)
 
     peeks_byte : (r : Reader) → flags_of f r ≡ flags_at f n
-        → peek_of (reading_for (state_in w) r) s (state_in w) r ≡ record { refusal = 0; byte = some b; taken = 0; passed = 0; state = state_in w }
+        → peek_of (reading_for (state_in w) r) s (state_in w) r ≡ record { refusal = 0; byte = Some b; taken = 0; passed = 0; state = state_in w }
     unfolding syntax_on syntax_of
     peeks_byte r flags =
         rw tests.4 at
         (sees_byte (syntax_of f r) s (state_in w) r (ap is_consecutive_alone flags ∙ not_alone tests.0) (fits tests.0) byte_inside (eqb-false _ _ tests.3))
 
-    pub byte_sight : Sight n w s (some b)
+    pub byte_sight : Sight n w s (Some b)
     byte_sight =
         record {
           low = leb-true n 2 (served tests.0).0;
@@ -172,12 +172,12 @@ module _ (n : ℕ) (w s : List ℕ) (here : Here) (found : here ≡ here_of n w 
     at_end = eqb-true (length s) (get_or w 2 0) end_told.2
 
     peeks_end : (r : Reader) → flags_of f r ≡ flags_at f n
-        → peek_of (reading_for (state_in w) r) s (state_in w) r ≡ record { refusal = 0; byte = none; taken = 0; passed = 0; state = state_in w }
+        → peek_of (reading_for (state_in w) r) s (state_in w) r ≡ record { refusal = 0; byte = None; taken = 0; passed = 0; state = state_in w }
     unfolding syntax_on syntax_of
     peeks_end r flags =
         sees_end (syntax_of f r) s (state_in w) r (ap is_consecutive_alone flags ∙ not_alone end_told.0) (fits end_told.0) at_end
 
-    pub end_sight : Sight n w s none
+    pub end_sight : Sight n w s None
     end_sight =
         record {
           low = leb-true n 2 (served end_told.0).0;

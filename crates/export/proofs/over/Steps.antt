@@ -1,9 +1,9 @@
 -- At a separator right before a digit a reader that has counted and may pass between digits passes it alone, and sees the digit: the words
 -- that are written there are those of the peek and of the take. Assumes nothing.
+use Rattle.std.specs.Prelude.{Some}
 use mathlib.Core.Path.{◌≡◌, ◌∙◌, refl, ap}
 use mathlib.Core.Bool.{Bool, true, false, cond, not, ◌&&◌, ◌||◌}
 use mathlib.Core.List.{List}
-use mathlib.Core.Option.{some}
 use Prim.Native.Nat.{ℕ, ◌+◌, ◌<◌}
 use native.Mathlib.Omega.{arith}
 use lib.Dec.{eqb, leb}
@@ -84,14 +84,14 @@ module _ (n : ℕ) (w s : List ℕ) (over : is_over n w s ≡ true) where
     admitted = peek_admitted (reading_with (syntax_of f r)) s (state_in w) r clear
 
     sees : peek_of (reading_with (syntax_of f r)) s (state_in w) r
-        ≡ record { refusal = 0; byte = some (behind w s); taken = 0; passed = 1; state = moved_to (state_in w) (get_or w 2 0 + 1) }
+        ≡ record { refusal = 0; byte = Some (behind w s); taken = 0; passed = 1; state = moved_to (state_in w) (get_or w 2 0 + 1) }
     unfolding peeked
     sees = admitted ∙ rw (passes_one, byte_here s (get_or w 2 0 + 1) more)
 
-    by : reader_on n (get_or w 7 0) ≡ some r
+    by : reader_on n (get_or w 7 0) ≡ Some r
     by = named_on n (get_or w 7 0) here.low here.edition
 
-    peeked_over : peeked_by n w s ≡ record { refusal = 0; byte = some (behind w s); taken = 0; passed = 1; state = moved_to (state_in w) (get_or w 2 0 + 1) }
+    peeked_over : peeked_by n w s ≡ record { refusal = 0; byte = Some (behind w s); taken = 0; passed = 1; state = moved_to (state_in w) (get_or w 2 0 + 1) }
     unfolding peeked_by syntax_on
     peeked_over = rw (by, sees)
 
@@ -99,7 +99,7 @@ module _ (n : ℕ) (w s : List ℕ) (over : is_over n w s ≡ true) where
     counts = rw (internal, tests.4)
 
     taken_over : taken_by n w s
-        ≡ record { refusal = 0; byte = some (behind w s); taken = 1; passed = 1; state = counted_by (moved_to (state_in w) (get_or w 2 0 + 1 + 1)) r }
+        ≡ record { refusal = 0; byte = Some (behind w s); taken = 1; passed = 1; state = counted_by (moved_to (state_in w) (get_or w 2 0 + 1 + 1)) r }
     unfolding taken_by next_of syntax_on syntax_of reading_with moved_to
     taken_over = rw (by, sees, counts)
 

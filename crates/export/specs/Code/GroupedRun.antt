@@ -1,7 +1,6 @@
 -- A cell that begins with a digit and each of whose separators, as far as its digits go, stands right before one: what the run of its
 -- digits comes to, from a fresh state, by every counted reader that may pass between digits (src/digit_run.rt). Assumes nothing.
-use Rattle.std.specs.Prelude.{◌≡◌, List, ℕ}
-use Rattle.std.proofs.Math.Option.{some}
+use Rattle.std.specs.Prelude.{◌≡◌, List, ℕ, Some}
 use Rattle.word.specs.declared.format_flags.Format.{Format}
 use Rattle.reader.specs.declared.state.Reader.{Reader}
 use Rattle.reader.specs.declared.passing.Syntax.{Syntax}
@@ -14,5 +13,5 @@ use Rattle.export.specs.Code.GroupedCell.{Between}
 abbrev pub GroupedRun : ℕ → ℕ → List ℕ → ℕ → ℕ → ℕ → ℕ → Type 0
 GroupedRun separator radix s at value count passed =
     (x : Syntax) (f : Format) (r : Reader) → Between x separator radix r
-    → record { refusal = 0; value = some value; taken = count; passed = passed; state = with_count (moved_to (fresh_of f) at) r count }
+    → record { refusal = 0; value = Some value; taken = count; passed = passed; state = with_count (moved_to (fresh_of f) at) r count }
     ≡ digit_run_of x s (fresh_of f) r

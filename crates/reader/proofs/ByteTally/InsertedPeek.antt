@@ -1,7 +1,7 @@
 -- A peek put in before a call by the same reader, over any reading that settles: the call answers as without it, only that the peek
 -- has passed what the call would have passed first. Assumes nothing.
+use Rattle.std.specs.Prelude.{Option, Some, None}
 use Rattle.std.proofs.Common.{◌≡◌, ℕ, zero, suc, ◌+◌, ◌≤◌, Bool, true, false, eqb, List, [], ◌∷◌, length, sym, refl, ap, ◌∙◌, add-zero, arith, eqb-true}
-use mathlib.Core.Option.{Option, some, none}
 use Rattle.reader.specs.declared.state.Reader.{Reader}
 use Rattle.reader.specs.declared.state.State.{State}
 use Rattle.reader.specs.Reading.{Reading, passed_at}
@@ -24,35 +24,35 @@ without_passed o = record { refusal = o.refusal; byte = o.byte; taken = o.taken;
 -- the calls after what was seen look at it alone
 module _ (m : Reading) (r : Reader) (o : Outcome) where
   take_without : (b : Option ℕ) → take_byte m r (without_passed o) b ≡ without_passed (take_byte m r o b)
-  take_without none = refl
-  take_without (some b) = refl
+  take_without None = refl
+  take_without (Some b) = refl
 
   pub take_passed : (b : Option ℕ) → (take_byte m r o b).passed ≡ o.passed
-  take_passed none = refl
-  take_passed (some b) = refl
+  take_passed None = refl
+  take_passed (Some b) = refl
 
 module _ (wanted : ℕ → Bool) (o : Outcome) where
   read_without : (b : Option ℕ) → read_byte_if wanted (without_passed o) b ≡ without_passed (read_byte_if wanted o b)
-  read_without none = refl
-  read_without (some b) = go (wanted b) refl where
-    go : (t : Bool) → wanted b ≡ t → read_byte_if wanted (without_passed o) (some b) ≡ without_passed (read_byte_if wanted o (some b))
+  read_without None = refl
+  read_without (Some b) = go (wanted b) refl where
+    go : (t : Bool) → wanted b ≡ t → read_byte_if wanted (without_passed o) (Some b) ≡ without_passed (read_byte_if wanted o (Some b))
     go true e = rw e
     go false e = rw e
 
   pub read_passed : (b : Option ℕ) → (read_byte_if wanted o b).passed ≡ o.passed
-  read_passed none = refl
-  read_passed (some b) = go (wanted b) refl where
-    go : (t : Bool) → wanted b ≡ t → (read_byte_if wanted o (some b)).passed ≡ o.passed
+  read_passed None = refl
+  read_passed (Some b) = go (wanted b) refl where
+    go : (t : Bool) → wanted b ≡ t → (read_byte_if wanted o (Some b)).passed ≡ o.passed
     go true e = rw e
     go false e = rw e
 
 raised_without : (r : Reader) (o : Outcome) (b : Option ℕ) → raised r (without_passed o) b ≡ without_passed (raised r o b)
-raised_without r o none = refl
-raised_without r o (some b) = refl
+raised_without r o None = refl
+raised_without r o (Some b) = refl
 
 pub raised_passed : (r : Reader) (o : Outcome) (b : Option ℕ) → (raised r o b).passed ≡ o.passed
-raised_passed r o none = refl
-raised_passed r o (some b) = refl
+raised_passed r o None = refl
+raised_passed r o (Some b) = refl
 
 -- calls told as one, from a first one that passed nothing
 module _ (o : Outcome) where

@@ -1,6 +1,6 @@
 -- The byte tally over any reading: each step keeps it, and so does each call, a zero skip with all its reads. Assumes nothing.
+use Rattle.std.specs.Prelude.{Option, Some, None}
 use Rattle.std.proofs.Common.{◌≡◌, ℕ, zero, suc, ◌+◌, ◌<◌, ◌≤◌, List, [], ◌∷◌, length, take, refl, ap, ◌∙◌, append_assoc, arith, length-take-le, take-add}
-use mathlib.Core.Option.{Option, some, none}
 use Rattle.reader.specs.declared.state.Reader.{Reader}
 use Rattle.reader.specs.declared.state.State.{State}
 use Rattle.reader.specs.Reading.{Reading}
@@ -82,5 +82,5 @@ module _ (m : Reader → Reading) (s : List ℕ) (sheet : Sheet) where
           (b : Option ℕ) → (call st).byte ≡ b
           → Skipping (call st).state (step_of r a_zero_read (call st) ∷ steps) (until_none n call (call (call st).state))
           → Skipping st steps (until_none (suc n) call (call st))
-      go none e then = rw e (last st steps so_far)
-      go (some b) e then = rw e (more st steps so_far (until_none n call (call (call st).state)) then)
+      go None e then = rw e (last st steps so_far)
+      go (Some b) e then = rw e (more st steps so_far (until_none n call (call (call st).state)) then)

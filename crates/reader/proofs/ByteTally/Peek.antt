@@ -1,6 +1,6 @@
 -- A peek from any state, refused or not: it moves over what it passed, which is separators where its rule holds. Assumes nothing.
+use Rattle.std.specs.Prelude.{Some}
 use Rattle.std.proofs.Common.{◌≡◌, ℕ, ◌+◌, ◌<◌, ◌≤◌, Bool, true, false, eqb, List, length, take, drop, replicate, refl, add-zero, arith, eqb-true}
-use mathlib.Core.Option.{some}
 use Rattle.reader.specs.declared.state.Reader.{Reader}
 use Rattle.reader.specs.declared.state.State.{State}
 use Rattle.reader.specs.Place.{byte_at}
@@ -14,7 +14,7 @@ use Rattle.reader.proofs.passing.Passed.{passed_fits, passes_only, passes_by_rul
 -- how an outcome stands to the state it came from, where the call took nothing
 pub record Peeks (m : Reading) (s : List ℕ) (st : State) (r : Reader) (o : Outcome) : Type 0 where
   pub moves : o.state ≡ moved_to st (st.cursor + o.passed)
-  pub sees : (b : ℕ) → o.byte ≡ some b → byte_at s (st.cursor + o.passed) ≡ some b
+  pub sees : (b : ℕ) → o.byte ≡ Some b → byte_at s (st.cursor + o.passed) ≡ Some b
   pub only : take o.passed (drop st.cursor s) ≡ replicate o.passed m.separator
   pub by_rule : 0 < o.passed → may_pass m s (eqb (count_of st r) 0) st.cursor ≡ true
   pub inside : st.cursor ≤ length s → st.cursor + o.passed ≤ length s

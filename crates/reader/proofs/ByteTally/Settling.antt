@@ -1,7 +1,6 @@
 -- Where a reading settles, a reader passes nothing at the place behind what it passed: for a peek put in before a call. Assumes nothing.
+use Rattle.std.specs.Prelude.{Option, Some, None, slice_get}
 use Rattle.std.proofs.Common.{◌≡◌, ℕ, ◌+◌, Bool, true, false, List, get_or, drop, refl, ap, ◌∙◌, add-zero, add-one}
-use mathlib.Core.List.{head?}
-use mathlib.Core.Option.{Option, some, none}
 use Rattle.reader.specs.declared.rule.Neighbour.{Neighbour}
 use Rattle.reader.specs.Place.{is_separator, byte_at, before, after, first_other, separator_run, nearest}
 use Rattle.reader.specs.Reading.{Reading, neighbour_of, previous, following, passes_byte, may_pass, passed_at}
@@ -15,9 +14,9 @@ pub record Settles (m : Reading) : Type 0 where
   pub once :
       (is_first : Bool) (b x : ℕ) (p n : Neighbour)
       → m.flags.consecutive ≡ false → is_separator m.separator b ≡ true → is_separator m.separator x ≡ true
-      → m.rule is_first p (neighbour_of m (some x)) ≡ true → m.rule is_first (neighbour_of m (some b)) n ≡ false
+      → m.rule is_first p (neighbour_of m (Some x)) ≡ true → m.rule is_first (neighbour_of m (Some b)) n ≡ false
 
-plain_nearest : (separator : ℕ) (consecutive : Bool) (bytes : List ℕ) → consecutive ≡ false → nearest separator consecutive bytes ≡ head? bytes
+plain_nearest : (separator : ℕ) (consecutive : Bool) (bytes : List ℕ) → consecutive ≡ false → nearest separator consecutive bytes ≡ slice_get bytes 0
 plain_nearest separator consecutive bytes e = rw e
 
 module _ (m : Reading) (law : Settles m) (s : List ℕ) (is_first : Bool) (place : ℕ) where
@@ -27,8 +26,8 @@ module _ (m : Reading) (law : Settles m) (s : List ℕ) (is_first : Bool) (place
     go :
         (o : Option ℕ) → first_other m.separator (drop place s) ≡ o
         → passes_byte m s is_first (place + separator_run m.separator (drop place s)) o ≡ false
-    go none e = refl
-    go (some b) e = rw (other_differs m.separator (drop place s) b e)
+    go None e = refl
+    go (Some b) e = rw (other_differs m.separator (drop place s) b e)
 
   one_settles : may_pass m s is_first place ≡ true → m.flags.consecutive ≡ false → may_pass m s is_first (place + 1) ≡ false
   unfolding may_pass
@@ -36,18 +35,18 @@ module _ (m : Reading) (law : Settles m) (s : List ℕ) (is_first : Bool) (place
     p : PassesHere m s is_first place
     p = passes_here m s is_first place e
 
-    back : byte_at s place ≡ some p.byte → previous m s (place + 1) ≡ neighbour_of m (some p.byte)
+    back : byte_at s place ≡ Some p.byte → previous m s (place + 1) ≡ neighbour_of m (Some p.byte)
     back q =
         let h = byte_inside s place p.byte q in
         let same : get_or s place 0 ≡ p.byte = cc (byte_here s place h, q) in
         ap (neighbour_of m) (plain_nearest m.separator m.flags.consecutive (before s (place + 1)) k ∙ rw (before_next s place h, same))
 
     go : (o : Option ℕ) → byte_at s (place + 1) ≡ o → passes_byte m s is_first (place + 1) o ≡ false
-    go none q = refl
-    go (some x) q =
+    go None q = refl
+    go (Some x) q =
         and_fails (is_separator m.separator x) _
         (λ h.
-        let front : following m s place ≡ neighbour_of m (some x) =
+        let front : following m s place ≡ neighbour_of m (Some x) =
         ap (neighbour_of m) (plain_nearest m.separator m.flags.consecutive (after s place) k ∙ rw (← add-one, q)) in
         rw (back p.here) (law.once is_first p.byte x (previous m s place) (following m s (place + 1)) k p.separator h (rw front at p.rule)))
 

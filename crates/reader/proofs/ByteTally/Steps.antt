@@ -1,8 +1,7 @@
 -- Each call moves the state by its step of the history: over any reading, refused calls included. Demand 1 of takes to the end goes by
 -- it too. Assumes nothing.
+use Rattle.std.specs.Prelude.{Option, Some, None, slice_get}
 use Rattle.std.proofs.Common.{◌≡◌, ℕ, ◌+◌, ◌-◌, ◌<◌, ◌≤◌, min, Bool, true, false, cond, ◌&&◌, eqb, List, [], ◌∷◌, length, take, drop, replicate, sym, refl, ◌∙◌, add-zero, arith, length-drop, length-take-le}
-use mathlib.Core.List.{head?}
-use mathlib.Core.Option.{Option, some, none}
 use Rattle.reader.specs.declared.state.Reader.{Reader}
 use Rattle.reader.specs.declared.state.State.{State}
 use Rattle.reader.specs.declared.rule.Flags.{Flags}
@@ -93,7 +92,7 @@ module _ (m : Reader → Reading) (st : State) (r : Reader) (b : ℕ) where
 
 -- STEPS
 
-first_byte : (l : List ℕ) (b : ℕ) → head? l ≡ some b → take 1 l ≡ b ∷ []
+first_byte : (l : List ℕ) (b : ℕ) → slice_get l 0 ≡ Some b → take 1 l ≡ b ∷ []
 first_byte [] b e = absurd (let z : ◌≡◌ {A = ℕ} 0 1 = cc in omega arith)
 first_byte (c ∷ l) b e = let same : c ≡ b = cc in rw same
 
@@ -116,7 +115,7 @@ module _ (m : Reader → Reading) (s : List ℕ) (st : State) (r : Reader) (kind
       }
 
   -- the byte that was seen was taken
-  takes_one : (b : ℕ) (then : State) → o.byte ≡ some b → Behind m o.state r kind b then
+  takes_one : (b : ℕ) (then : State) → o.byte ≡ Some b → Behind m o.state r kind b then
       → Moves m s st (record { reader = r; kind = kind; passed = o.passed; bytes = b ∷ [] }) then
   unfolding moved_to
   takes_one b then e behind =
@@ -148,8 +147,8 @@ module _ (m : Reader → Reading) (s : List ℕ) (st : State) (r : Reader) where
   unfolding next_of
   take_step = go seen.byte refl where
     go : (b : Option ℕ) → seen.byte ≡ b → Moves m s st (step_of r a_take (take_byte (m r) r seen b)) (take_byte (m r) r seen b).state
-    go none e = rw e (stays m s st r a_take seen view)
-    go (some b) e = takes_one m s st r a_take seen view b (taken_from (m r) r b seen.state) e (taken_behind m seen.state r b)
+    go None e = rw e (stays m s st r a_take seen view)
+    go (Some b) e = takes_one m s st r a_take seen view b (taken_from (m r) r b seen.state) e (taken_behind m seen.state r b)
 
   pub read_step : (wanted : ℕ → Bool) → Moves m s st (step_of r a_read (read_if_of (m r) s st r wanted)) (read_if_of (m r) s st r wanted).state
   read_step wanted =
@@ -174,8 +173,8 @@ module _ (m : Reader → Reading) (s : List ℕ) (st : State) (r : Reader) where
   unfolding next_of
   take_counts = go seen.byte refl where
     go : (b : Option ℕ) → seen.byte ≡ b → (take_byte (m r) r seen b).taken ≡ length (byte_taken (take_byte (m r) r seen b).byte)
-    go none e = rw e view.none_taken
-    go (some b) e = refl
+    go None e = rw e view.none_taken
+    go (Some b) e = refl
 
   pub read_counts : (wanted : ℕ → Bool) → (read_if_of (m r) s st r wanted).taken ≡ length (byte_taken (read_if_of (m r) s st r wanted).byte)
   read_counts wanted = read_cases (m r) s st r wanted (λ o. o.taken ≡ length (byte_taken o.byte)) (λ b e. refl) refl (λ e. rw e view.none_taken)

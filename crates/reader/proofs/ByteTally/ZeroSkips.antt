@@ -1,7 +1,7 @@
 -- What a zero skip answers beside its reads, and what it adds to the count of the history: as many zeros as there are reads that took
 -- one. Over any reading. Assumes nothing.
+use Rattle.std.specs.Prelude.{Option, Some, None}
 use Rattle.std.proofs.Common.{◌≡◌, ℕ, zero, suc, ◌+◌, ◌≤◌, Bool, true, false, cond, eqb, List, [], ◌∷◌, length, sym, refl, ap, ◌∙◌, subst, add-zero, arith, eqb-true}
-use mathlib.Core.Option.{Option, some, none}
 use borrow.Author.Tests.{eqb-false}
 use Rattle.reader.specs.declared.state.Reader.{Reader}
 use Rattle.reader.specs.declared.state.State.{State}
@@ -25,30 +25,30 @@ module _ (m : Reading) (s : List ℕ) (st : State) (r : Reader) where
   seen = peek_of m s st r
 
   -- a byte that a read answers is the one that it saw, and in its set
-  read_seen_lem : (wanted : ℕ → Bool) (b : ℕ) → (read_if_of m s st r wanted).byte ≡ some b → (seen.byte ≡ some b) × (wanted b ≡ true)
+  read_seen_lem : (wanted : ℕ → Bool) (b : ℕ) → (read_if_of m s st r wanted).byte ≡ Some b → (seen.byte ≡ Some b) × (wanted b ≡ true)
   unfolding read_if_of
   read_seen_lem wanted b = go seen.byte refl where
     asked :
-        (c : ℕ) (t : Bool) → wanted c ≡ t → seen.byte ≡ some c → (read_byte_if wanted seen (some c)).byte ≡ some b
-        → (seen.byte ≡ some b) × (wanted b ≡ true)
-    asked c true t e h = let k : some c ≡ some b = rw t at h in let same : c ≡ b = cc in (e ∙ k, rw same at t)
+        (c : ℕ) (t : Bool) → wanted c ≡ t → seen.byte ≡ Some c → (read_byte_if wanted seen (Some c)).byte ≡ Some b
+        → (seen.byte ≡ Some b) × (wanted b ≡ true)
+    asked c true t e h = let k : Some c ≡ Some b = rw t at h in let same : c ≡ b = cc in (e ∙ k, rw same at t)
     asked c false t e h = absurd (none_there b (rw t at h))
 
-    go : (o : Option ℕ) → seen.byte ≡ o → (read_byte_if wanted seen o).byte ≡ some b → (seen.byte ≡ some b) × (wanted b ≡ true)
-    go none e h = absurd (none_there b (sym e ∙ h))
-    go (some c) e h = asked c (wanted c) refl e h
+    go : (o : Option ℕ) → seen.byte ≡ o → (read_byte_if wanted seen o).byte ≡ Some b → (seen.byte ≡ Some b) × (wanted b ≡ true)
+    go None e h = absurd (none_there b (sym e ∙ h))
+    go (Some c) e h = asked c (wanted c) refl e h
 
   -- and one that it declines is not
-  declined_other : (wanted : ℕ → Bool) (b : ℕ) → (read_if_of m s st r wanted).byte ≡ none → seen.byte ≡ some b → wanted b ≡ false
+  declined_other : (wanted : ℕ → Bool) (b : ℕ) → (read_if_of m s st r wanted).byte ≡ None → seen.byte ≡ Some b → wanted b ≡ false
   unfolding read_if_of
   declined_other wanted b h e = go (wanted b) refl (rw e at h) where
-    go : (t : Bool) → wanted b ≡ t → (read_byte_if wanted seen (some b)).byte ≡ none → wanted b ≡ false
+    go : (t : Bool) → wanted b ≡ t → (read_byte_if wanted seen (Some b)).byte ≡ None → wanted b ≡ false
     go true t k = absurd (none_there b (sym (rw t at k)))
     go false t k = t
 
   raised_byte : (o : Outcome) (b : Option ℕ) → (raised r o b).byte ≡ o.byte
-  raised_byte o none = refl
-  raised_byte o (some b) = refl
+  raised_byte o None = refl
+  raised_byte o (Some b) = refl
 
   -- a read of a zero skip answers what the read does
   zero_byte : (zero_read_of m s r st).byte ≡ (read_if_of m s st r is_zero).byte
@@ -56,19 +56,19 @@ module _ (m : Reading) (s : List ℕ) (st : State) (r : Reader) where
   zero_byte = raised_byte (read_if_of m s st r is_zero) (read_if_of m s st r is_zero).byte
 
   -- so its byte is a `0`, and what it declines is none
-  zero_read : (b : ℕ) → (zero_read_of m s r st).byte ≡ some b → ((zero_read_of m s r st).byte ≡ some 48) × (seen.byte ≡ some 48)
+  zero_read : (b : ℕ) → (zero_read_of m s r st).byte ≡ Some b → ((zero_read_of m s r st).byte ≡ Some 48) × (seen.byte ≡ Some 48)
   zero_read b e =
       let read = read_seen_lem is_zero b (sym zero_byte ∙ e) in
       let is_zero_lem : b ≡ 48 = eqb-true b 48 read.1 in
-      (e ∙ ap some is_zero_lem, read.0 ∙ ap some is_zero_lem)
+      (e ∙ ap Some is_zero_lem, read.0 ∙ ap Some is_zero_lem)
 
-  other_seen : (zero_read_of m s r st).byte ≡ none → (b : ℕ) → seen.byte ≡ some b → is_zero b ≡ false
+  other_seen : (zero_read_of m s r st).byte ≡ None → (b : ℕ) → seen.byte ≡ Some b → is_zero b ≡ false
   other_seen e b = declined_other is_zero b (sym zero_byte ∙ e)
 
   -- from a state that is not refused, it is not refused
   raised_number : (o : Outcome) (b : Option ℕ) → (raised r o b).refusal ≡ o.refusal
-  raised_number o none = refl
-  raised_number o (some b) = refl
+  raised_number o None = refl
+  raised_number o (Some b) = refl
 
   zero_clear : refusal_of m s st r ≡ 0 → (zero_read_of m s r st).refusal ≡ 0
   unfolding zero_read_of peeked
@@ -86,33 +86,33 @@ module _ (m : Reading) (s : List ℕ) (r : Reader) where
   took st b e = zero_counts (λ q. m) s st r ∙ ap (λ (o : Option ℕ). length (byte_taken o)) e
 
   -- a read that took none is the last one, one that took a byte is not
-  last_read : (st : State) (following : List Outcome) → refusal_of m s st r ≡ 0 → (call st).byte ≡ none
+  last_read : (st : State) (following : List Outcome) → refusal_of m s st r ≡ 0 → (call st).byte ≡ None
       → ZerosThenNone (with_seen m s r st (call st ∷ if_byte (call st).byte following))
   last_read st following clear e =
       subst (λ (b : Option ℕ). ZerosThenNone (with_seen m s r st (call st ∷ if_byte b following))) (sym e)
-      (e, took st none e, zero_clear m s st r clear, other_seen m s st r e)
+      (e, took st None e, zero_clear m s st r clear, other_seen m s st r e)
 
-  read_more : (st : State) (b : ℕ) (next : Outcome) (rest : List Outcome) → refusal_of m s st r ≡ 0 → (call st).byte ≡ some b
+  read_more : (st : State) (b : ℕ) (next : Outcome) (rest : List Outcome) → refusal_of m s st r ≡ 0 → (call st).byte ≡ Some b
       → ZerosThenNone (with_seen m s r (call st).state (next ∷ rest)) → ZerosThenNone (with_seen m s r st (call st ∷ if_byte (call st).byte (next ∷ rest)))
   read_more st b next rest clear e then =
       let zero = zero_read m s st r b e in
       subst (λ (b : Option ℕ). ZerosThenNone (with_seen m s r st (call st ∷ if_byte b (next ∷ rest)))) (sym e)
-      (zero.0, took st (some b) e, zero_clear m s st r clear, zero.1, then)
+      (zero.0, took st (Some b) e, zero_clear m s st r clear, zero.1, then)
 
   -- each took a `0` until one took none, if as many may follow the first as there are bytes left
   reads_end : (n : ℕ) (st : State) → refusal_of m s st r ≡ 0 → length s ≤ st.cursor + n → ZerosThenNone (with_seen m s r st (call st ∷ until_none n call (call st)))
   unfolding until_none
   reads_end zero st clear few = go (call st).byte refl where
     go : (o : Option ℕ) → (call st).byte ≡ o → ZerosThenNone (with_seen m s r st (call st ∷ []))
-    go none e = (e, took st none e, zero_clear m s st r clear, other_seen m s st r e)
-    go (some b) e = absurd (omega (arith, (zero_takes_one m s st r b e).inside))
+    go None e = (e, took st None e, zero_clear m s st r clear, other_seen m s st r e)
+    go (Some b) e = absurd (omega (arith, (zero_takes_one m s st r b e).inside))
   reads_end (suc n) st clear few = go (call st).byte refl (reads_end n (call st).state (moves_clear (λ q. m) s st _ (call st).state (zero_step (λ q. m) s st r) m.flags r clear)) where
     go :
         (o : Option ℕ) → (call st).byte ≡ o
         → (length s ≤ (call st).state.cursor + n → ZerosThenNone (with_seen m s r (call st).state (call (call st).state ∷ until_none n call (call (call st).state))))
         → ZerosThenNone (with_seen m s r st (call st ∷ if_byte (call st).byte (call (call st).state ∷ until_none n call (call (call st).state))))
-    go none e rest = last_read st _ clear e
-    go (some b) e rest = read_more st b _ _ clear e (rest (omega (arith, (zero_takes_one m s st r b e).moves)))
+    go None e rest = last_read st _ clear e
+    go (Some b) e rest = read_more st b _ _ clear e (rest (omega (arith, (zero_takes_one m s st r b e).moves)))
 
 -- THE ANSWER: sums over its reads
 
@@ -140,7 +140,7 @@ module _ (m : Reading) (s : List ℕ) (st : State) (r : Reader) where
       let back = sym (outcomes_back m s r st (first ∷ rest)) in
       let sum = sum_taken first rest ∙ ap taken_by_reads back in
       record {
-        zeros = ap some (sum ∙ all_took (with_seen m s r st (first ∷ rest)) reads);
+        zeros = ap Some (sum ∙ all_took (with_seen m s r st (first ∷ rest)) reads);
         taken = sum;
         passed = sum_passed first rest ∙ ap passed_by_reads back;
         reads = reads;

@@ -1,7 +1,7 @@
 -- An ordinary cell, taken to its end from a fresh state, adds what its pairs tell: behind its first digit each separator is judged by
 -- the byte behind it alone, and no two are passed together. Assumes nothing.
+use Rattle.std.specs.Prelude.{Some, None}
 use Rattle.std.proofs.Common.{◌≡◌, ℕ, zero, suc, ◌+◌, ◌-◌, ◌<◌, ◌≤◌, Bool, true, false, cond, ◌&&◌, eqb, ltb, List, length, get_or, drop, sym, refl, ap, ◌∙◌, add-one, arith, drop_of_length-le, drop-cons, ltb-false, ltb-true, eq-eqb, ne_eqb, eqb-true}
-use mathlib.Core.Option.{some, none}
 use borrow.Author.Tests.{eqb-false}
 use Rattle.word.specs.Digit.{is_digit}
 use Rattle.word.specs.declared.format_flags.Format.{Format}
@@ -46,11 +46,11 @@ module _ (x : Syntax) (r : Reader) (s : List ℕ) (q : Countable x r s) where
 
   -- a pair counts exactly where the rule holds of the byte behind the separator
   hit_is_rule : (b n : ℕ) → b ≡ x.separator
-      → matches_of (passing x) b n ≡ rule_of x.flags false nothing_before (neighbour_of (reading_with x) (some n))
+      → matches_of (passing x) b n ≡ rule_of x.flags false nothing_before (neighbour_of (reading_with x) (Some n))
   unfolding neighbour_of reading_with is_separator
   hit_is_rule b n e = go (is_digit n x.radix) (eqb n x.separator) refl refl where
     go : (d t : Bool) → is_digit n x.radix ≡ d → eqb n x.separator ≡ t
-        → matches_of (passing x) b n ≡ rule_of x.flags false nothing_before (neighbour_of (reading_with x) (some n))
+        → matches_of (passing x) b n ≡ rule_of x.flags false nothing_before (neighbour_of (reading_with x) (Some n))
     go true true p u = absurd (digit_is_other n p (eqb-true n x.separator u))
     go true false p u = rw (eq-eqb b x.separator e, p, u, ne_eqb x.separator 0 (λ z. omega (arith, q.positive)))
     go false true p u = rw (eq-eqb b x.separator e, p, u, ne_eqb x.separator 0 (λ z. omega (arith, q.positive)))
@@ -76,11 +76,11 @@ module _ (x : Syntax) (r : Reader) (s : List ℕ) (q : Countable x r s) where
     other_next : x.flags.consecutive ≡ true → is_separator x.separator (get_or s (at + 1) 0) ≡ false
     other_next c = no_separator x.separator (get_or s (at + 1) 0) (q.single c at inside equal)
 
-    next_byte : following (reading_with x) s at ≡ neighbour_of (reading_with x) (some (get_or s (at + 1) 0))
+    next_byte : following (reading_with x) s at ≡ neighbour_of (reading_with x) (Some (get_or s (at + 1) 0))
     unfolding reading_with
     next_byte =
         ap (neighbour_of (reading_with x)) (go x.flags.consecutive refl) where
-          go : (c : Bool) → x.flags.consecutive ≡ c → nearest x.separator x.flags.consecutive (after s at) ≡ some (get_or s (at + 1) 0)
+          go : (c : Bool) → x.flags.consecutive ≡ c → nearest x.separator x.flags.consecutive (after s at) ≡ Some (get_or s (at + 1) 0)
           go true c = rw (c, ← add-one at, drop-cons s (at + 1) 0 inside, other_next c)
           go false c = rw (c, ← add-one at, drop-cons s (at + 1) 0 inside)
 
@@ -88,7 +88,7 @@ module _ (x : Syntax) (r : Reader) (s : List ℕ) (q : Countable x r s) where
         ≡ matches_of (passing x) (get_or s at 0) (get_or s (at + 1) 0)
     rule_told =
         ap (rule_of x.flags false (previous (reading_with x) s at)) next_byte
-        ∙ sym (later_looks_behind x.flags (previous (reading_with x) s at) (neighbour_of (reading_with x) (some (get_or s (at + 1) 0))))
+        ∙ sym (later_looks_behind x.flags (previous (reading_with x) s at) (neighbour_of (reading_with x) (Some (get_or s (at + 1) 0))))
         ∙ sym (hit_is_rule (get_or s at 0) (get_or s (at + 1) 0) equal)
 
     -- a pair that counts has no separator for its second byte, so one separator is passed
@@ -126,7 +126,7 @@ module _ (x : Syntax) (r : Reader) (s : List ℕ) (q : Countable x r s) where
 
     -- the end of the cell, with P separators passed and D digits counted
     abbrev finish : ℕ → ℕ → Outcome
-    finish P D = record { refusal = 0; byte = none; taken = length s - P; passed = P; state = state_at st r (length s) D }
+    finish P D = record { refusal = 0; byte = None; taken = length s - P; passed = P; state = state_at st r (length s) D }
 
     told_so : (P P' D D' : ℕ) → P ≡ P' → D ≡ D' → next_all_of (reading_with x) s st r ≡ finish P D → next_all_of (reading_with x) s st r ≡ finish P' D'
     told_so P P' D D' p d e = rw (p, d) at e
@@ -202,8 +202,8 @@ module _ (x : Syntax) (r : Reader) (s : List ℕ) (q : Countable x r s) where
                 judged : (inside : at + 1 < length s) (equal : get_or s at 0 ≡ x.separator) (u : Bool) → matches_of (passing x) (get_or s at 0) (get_or s (at + 1) 0) ≡ u → Tells at count passed
                 judged inside equal true u = takes_next inside equal u
                 judged inside equal false u =
-                    let none : pairs_of (passing x) (drop at s) ≡ pairs_of (passing x) (drop (at + 1) s) = rw (add-one, one_pair (passing x) s at (omega arith), rw add-one at u) (omega arith) in
-                    takes_here h (stays_here at inside equal (eqb count 0) (ne_eqb count 0 (λ z. omega arith)) u) none
+                    let None : pairs_of (passing x) (drop at s) ≡ pairs_of (passing x) (drop (at + 1) s) = rw (add-one, one_pair (passing x) s at (omega arith), rw add-one at u) (omega arith) in
+                    takes_here h (stays_here at inside equal (eqb count 0) (ne_eqb count 0 (λ z. omega arith)) u) None
 
     told_from : (n at count passed : ℕ) → length s ≤ at + n → 0 < count → Running (reading_with x) s r st at count passed → Tells at count passed
     told_from zero at count passed few above here = at_end at count passed (omega arith) here

@@ -1,5 +1,5 @@
 -- The sums over a column's cells, as its loop adds them: stretch by stretch or cell by cell; and the call's outcome. Assumes nothing.
-use Rattle.std.proofs.Common.{◌≡◌, ℕ, ◌+◌, ◌<◌, ◌≤◌, List, [], length, get_or, drop, sym, ap, ◌∙◌, arith, drop_of_length-le}
+use Rattle.std.proofs.Common.{◌≡◌, ℕ, ◌+◌, ◌≤◌, List, [], ◌∷◌, length, drop, sym, refl, ap, ◌∙◌, arith}
 use Rattle.word.specs.declared.format_flags.Format.{Format}
 use Rattle.reader.specs.declared.state.Reader.{Reader}
 use Rattle.reader.specs.declared.state.Refusal.{Refusal}
@@ -14,79 +14,79 @@ use Rattle.reader.specs.Column.{part_from, bound_of, no_totals, add_totals, cell
 use Rattle.reader.specs.Code.OrdinaryCells.{Stretch, passing, ordinary_totals}
 use Rattle.reader.proofs.state.Refusals.{refusal_tells}
 use Rattle.reader.proofs.column.Cells.{part_length}
-use Rattle.reader.proofs.column.Stretches.{add_totals_assoc, column_at, digits_within, pairs_within, same_totals}
+use Rattle.reader.proofs.column.Stretches.{add_totals_assoc, digits_within, pairs_within, same_totals}
 
 -- what a stretch adds is no more than its bytes
 pub stretch_size : (x : Syntax) (l : List ℕ) → ((ordinary_totals x l).taken + (ordinary_totals x l).passed ≡ length l) × ((ordinary_totals x l).digits ≤ length l)
 stretch_size x l = (omega (arith, pairs_within (passing x) l), digits_within x.radix l)
 
--- The sums over a column's cells up to one, which begins at `at`.
-pub record Summed (x : Syntax) (f : Format) (r : Reader) (s ends : List ℕ) (sums : Totals) (cell at : ℕ) : Type 0 where
-  pub cells : cell ≤ length ends
+-- The sums over a column's cells but the last, those that `left` ends, of which the first begins at `at`.
+pub record Summed (x : Syntax) (f : Format) (r : Reader) (s ends : List ℕ) (sums : Totals) (left : List ℕ) (at : ℕ) : Type 0 where
   pub inside : at ≤ length s
   pub size : sums.taken + sums.passed ≤ at
   pub digits : sums.digits ≤ at
-  pub totals : column_from (reading_with x) f r s 0 ends ≡ add_totals sums (column_from (reading_with x) f r s at (drop cell ends))
+  pub totals : column_from (reading_with x) f r s 0 ends ≡ add_totals sums (column_from (reading_with x) f r s at left)
 
 module _ (x : Syntax) (f : Format) (r : Reader) (s ends : List ℕ) where
-  pub sums_start : Summed x f r s ends no_totals 0 0
+  pub sums_start : Summed x f r s ends no_totals ends 0
   sums_start =
       let c = column_from (reading_with x) f r s 0 ends in
       record {
-        cells = omega arith;
         inside = omega arith;
         size = omega arith;
         digits = omega arith;
         totals = same_totals c (add_totals no_totals c) (omega arith) (omega arith) (omega arith);
       }
 
-  module _ (sums : Totals) (cell at : ℕ) (here : Summed x f r s ends sums cell at) where
+  module _ (sums : Totals) (left : List ℕ) (at : ℕ) (here : Summed x f r s ends sums left at) where
     -- a stretch of ordinary cells more
-    pub sums_stretch : (to : Reached) → Stretch x r s ends cell at to → refusal_with x.flags s (fresh_of f) r ≡ 0
-        → Summed x f r s ends (add_totals sums (ordinary_totals x (part_from s at to.at))) to.cell to.at
+    pub sums_stretch : (to : Reached) → Stretch x r s left 0 at to → refusal_with x.flags s (fresh_of f) r ≡ 0
+        → Summed x f r s ends (add_totals sums (ordinary_totals x (part_from s at to.at))) (drop to.cell left) to.at
     sums_stretch to stretch clear =
         let size = stretch_size x (part_from s at to.at) in
         let long = part_length s at to.at stretch.ordered stretch.inside in
         record {
-          cells = stretch.cells;
           inside = stretch.inside;
           size = omega (arith, here.size, size.0, long, stretch.ordered);
           digits = omega (arith, here.digits, size.1, long, stretch.ordered);
           totals =
               here.totals
               ∙ ap (add_totals sums) (stretch.totals f clear)
-              ∙ add_totals_assoc sums (ordinary_totals x (part_from s at to.at)) (column_from (reading_with x) f r s to.at (drop to.cell ends));
+              ∙ add_totals_assoc sums (ordinary_totals x (part_from s at to.at)) (column_from (reading_with x) f r s to.at (drop to.cell left));
         }
 
     -- one cell more
-    pub sums_cell : (end : ℕ) (one : Totals) → cell < length ends → end ≡ bound_of s at (get_or ends cell 0)
+    pub sums_cell : (told : ℕ) (behind : List ℕ) → left ≡ told ∷ behind → (end : ℕ) (one : Totals) → end ≡ bound_of s at told
         → one ≡ cell_totals (reading_with x) f r (part_from s at end)
         → one.taken + one.passed ≤ length (part_from s at end) → one.digits ≤ length (part_from s at end)
-        → Summed x f r s ends (add_totals sums one) (cell + 1) end
-    sums_cell end one more bound known size digits =
+        → Summed x f r s ends (add_totals sums one) behind end
+    unfolding column_from
+    sums_cell told behind next end one bound known size digits =
         let ordered : at ≤ end = omega (arith, here.inside) in
         let within : end ≤ length s = omega arith in
         let long = part_length s at end ordered within in
-        let rest = column_from (reading_with x) f r s end (drop (cell + 1) ends) in
+        let rest = column_from (reading_with x) f r s end behind in
         record {
-          cells = omega arith;
           inside = within;
           size = omega (arith, here.size);
           digits = omega (arith, here.digits);
           totals =
-              here.totals
+              rw next at here.totals
               ∙ ap (add_totals sums)
-              (column_at (reading_with x) f r s ends cell at more
-              ∙ ap (λ (e : ℕ). add_totals (cell_totals (reading_with x) f r (part_from s at e)) (column_from (reading_with x) f r s e (drop (cell + 1) ends))) (sym bound)
+              (ap (λ (e : ℕ). add_totals (cell_totals (reading_with x) f r (part_from s at e)) (column_from (reading_with x) f r s e behind)) (sym bound)
               ∙ ap (λ (t : Totals). add_totals t rest) (sym known))
               ∙ add_totals_assoc sums one rest;
         }
 
+    nothing_left : (l : List ℕ) → length l ≡ 0 → l ≡ []
+    nothing_left [] e = refl
+    nothing_left (end ∷ l) e = absurd (omega arith)
+
     -- behind the last cell
-    pub sums_end : length ends ≤ cell → sums ≡ column_from (reading_with x) f r s 0 ends
+    pub sums_end : length left ≡ 0 → sums ≡ column_from (reading_with x) f r s 0 ends
     unfolding column_from
     sums_end out =
-        let over : drop cell ends ≡ [] = drop_of_length-le ends out in
+        let over : left ≡ [] = nothing_left left out in
         sym (here.totals ∙ rw over (same_totals (add_totals sums no_totals) sums (omega arith) (omega arith) (omega arith)))
 
 -- the call's outcome: the sums, or its refusal

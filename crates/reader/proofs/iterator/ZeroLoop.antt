@@ -1,6 +1,6 @@
 -- The loop of a zero skip on plain numbers: how its numbers stand for the state of a list of reads of `0`. Assumes nothing.
+use Rattle.std.specs.Prelude.{Some, None}
 use Rattle.std.proofs.Common.{◌≡◌, ℕ, ◌+◌, ◌-◌, ◌<◌, ◌≤◌, Bool, true, false, ◌&&◌, eqb, ltb, List, length, get_or, sym, refl, ap, ◌∙◌, add-zero, arith, ltb-false, ltb-true, eqb-true}
-use mathlib.Core.Option.{some, none}
 use borrow.Author.Tests.{eqb-false}
 use Rattle.reader.specs.declared.state.Reader.{Reader}
 use Rattle.reader.specs.declared.state.State.{State}
@@ -80,7 +80,7 @@ module _ (m : Reading) (s : List ℕ) (r : Reader) (st : State) (clear : skip_re
       seen = peeks_at s r st at count here.stands m (skip_admits m.flags s st r clear).1 place lands
 
       takes_zero : zero_at s place ≡ true → zero_read_of m s r now
-          ≡ record { refusal = 0; byte = some (get_or s place 0); taken = 1; passed = place - at; state = state_at st r (place + 1) (count + 1) }
+          ≡ record { refusal = 0; byte = Some (get_or s place 0); taken = 1; passed = place - at; state = state_at st r (place + 1) (count + 1) }
       unfolding zero_read_of read_if_of
       takes_zero t =
           let zero = zero_there s place t in
@@ -88,11 +88,11 @@ module _ (m : Reading) (s : List ℕ) (r : Reader) (st : State) (clear : skip_re
 
       -- a read declines a byte that is no `0`, and the end
       declines : zero_at s place ≡ false → zero_read_of m s r now
-          ≡ record { refusal = 0; byte = none; taken = 0; passed = place - at; state = state_at st r place count }
+          ≡ record { refusal = 0; byte = None; taken = 0; passed = place - at; state = state_at st r place count }
       unfolding zero_read_of read_if_of
       declines t = go (ltb place (length s)) refl where
         go : (u : Bool) → ltb place (length s) ≡ u → zero_read_of m s r now
-            ≡ record { refusal = 0; byte = none; taken = 0; passed = place - at; state = state_at st r place count }
+            ≡ record { refusal = 0; byte = None; taken = 0; passed = place - at; state = state_at st r place count }
         go true e =
             let other : is_zero (get_or s place 0) ≡ false = rw e at t in
             rw (seen, byte_here s place (ltb-true place (length s) e), other)
@@ -113,7 +113,7 @@ module _ (m : Reading) (s : List ℕ) (r : Reader) (st : State) (clear : skip_re
 
       -- where a read declines the skip is over
       pub skipping_over : zero_at s place ≡ false
-          → record { refusal = 0; zeros = some taken; taken = taken; passed = passed + (place - at); state = state_at st r place count } ≡ skip_zeros_of m s st r
+          → record { refusal = 0; zeros = Some taken; taken = taken; passed = passed + (place - at); state = state_at st r place count } ≡ skip_zeros_of m s st r
       skipping_over t =
           let last = declines t in
           let over = repeating_ends s (zero_read_of m s r) st taken passed now here.so_far (ap (λ (o : Outcome). o.byte) last) in

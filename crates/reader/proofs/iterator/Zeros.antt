@@ -1,7 +1,7 @@
 -- The zero skip, read by read: what a read of it takes, what the skip answers where it is refused and where it is not, and that its
 -- reads have come to their end: for this room, and for the two demands. Assumes nothing.
+use Rattle.std.specs.Prelude.{Some, None}
 use Rattle.std.proofs.Common.{◌≡◌, ℕ, ◌+◌, Bool, true, false, eqb, List, [], ◌∷◌, length, sym, refl, ap, ◌∙◌}
-use mathlib.Core.Option.{some, none}
 use Rattle.reader.specs.declared.state.Reader.{Reader}
 use Rattle.reader.specs.declared.state.State.{State}
 use Rattle.reader.specs.declared.state.Refusal.{Refusal}
@@ -19,10 +19,10 @@ use Rattle.reader.proofs.state.Updates.{counted_stays}
 use Rattle.reader.proofs.skip.Takes.{peek_byte}
 
 -- a read of a zero skip with a byte took one
-pub zero_takes_one : (m : Reading) (s : List ℕ) (st : State) (r : Reader) (b : ℕ) → (zero_read_of m s r st).byte ≡ some b → TakesOne s st (zero_read_of m s r st)
+pub zero_takes_one : (m : Reading) (s : List ℕ) (st : State) (r : Reader) (b : ℕ) → (zero_read_of m s r st).byte ≡ Some b → TakesOne s st (zero_read_of m s r st)
 unfolding zero_read_of moved_to
 zero_takes_one m s st r b =
-    read_cases m s st r is_zero (λ o. (raised r o o.byte).byte ≡ some b → TakesOne s st (raised r o o.byte))
+    read_cases m s st r is_zero (λ o. (raised r o o.byte).byte ≡ Some b → TakesOne s st (raised r o o.byte))
     (λ c e h.
     let on = peek_byte m s st r c e in
     record { moves = counted_stays _ r ∙ ap (λ (n : ℕ). n + 1) on.moves; inside = on.inside; one = refl })
@@ -56,5 +56,5 @@ skip_cases m s st r P reads refuses = go (eqb (skip_refusal m.flags s st r) 0) r
   go false t = rw (t, t) (refuses t)
 
 -- the reads of a zero skip have come to their end: the last one answers no byte
-pub zero_skip_ends : (m : Reading) (s : List ℕ) (st : State) (r : Reader) → (repeated (length s) (zero_read_of m s r) st).byte ≡ none
+pub zero_skip_ends : (m : Reading) (s : List ℕ) (st : State) (r : Reader) → (repeated (length s) (zero_read_of m s r) st).byte ≡ None
 zero_skip_ends m s st r = repeated_ends s (zero_read_of m s r) (λ here. zero_takes_one m s here r) st

@@ -1,7 +1,8 @@
 -- Laws of the counts over bytes and the byte behind each, as the loops over a slice meet them: for the quick way through a column.
 -- Assumes nothing.
-use Rattle.std.proofs.Common.{◌≡◌, ℕ, zero, suc, ◌+◌, ◌-◌, ◌<◌, ◌≤◌, Bool, true, false, cond, not, ◌&&◌, ◌||◌, List, [], ◌∷◌, length, get_or, take, drop, refl, arith, length-drop, length-take, take_all, drop-drop}
+use Rattle.std.proofs.Common.{◌≡◌, ℕ, zero, suc, ◌+◌, ◌-◌, ◌<◌, ◌≤◌, Bool, true, false, cond, not, ◌&&◌, ◌||◌, List, [], ◌∷◌, length, get_or, take, drop, refl, arith, length-drop, length-take}
 use lib.Seq.{drop-nil}
+use Rattle.std.specs.Int.{from_bool}
 use Rattle.reader.specs.Code.Pairs.{matches_of, pairs_of}
 use Rattle.reader.specs.declared.pairs.Pairs.{Pairs}
 
@@ -12,6 +13,11 @@ kinds true s false y z = refl
 kinds false true x true z = refl
 kinds false true x false z = refl
 kinds false false x y z = refl
+
+-- what a test adds to a count
+pub one_or_none : (b : Bool) → from_bool b ≡ cond b 1 0
+one_or_none true = refl
+one_or_none false = refl
 
 -- one pair adds at most one
 pub at_most_one : (b : Bool) → cond b 1 0 ≤ 1
@@ -62,26 +68,12 @@ module _ (p : Pairs) (s : List ℕ) (i count : ℕ) (begun : 1 ≤ i) (same : co
   pub pairs_end : length s ≤ i → count ≡ pairs_of p s
   pairs_end out = omega (arith, no_pair p s (i - 1) (omega arith))
 
--- A part of a slice with 225 bytes, and so 224 pairs, of which `few` count.
-module _ (p : Pairs) (s : List ℕ) (from few : ℕ) (counted : few ≡ pairs_of p (take (from + 225 - from) (drop from s))) where
-  -- its width, computed
-  counted_of_225 : few ≡ pairs_of p (take 225 (drop from s))
-  counted_of_225 = let width : from + 225 - from ≡ 225 = omega arith in rw width at counted
-
-  -- no more count than it has
-  pub part_most : from + 225 ≤ length s → few ≤ 224
-  part_most inside =
-      let size : length (take 225 (drop from s)) ≡ 225 = simp (length-take, length-drop) (omega arith) in
-      omega (arith, counted_of_225, pairs_below p (take 225 (drop from s)) (omega arith))
-
-  -- where the pairs before it are counted, those up to its last byte are then
-  pub part_turn : (count : ℕ) → count + pairs_of p (drop from s) ≡ pairs_of p s → count + few + pairs_of p (drop (from + 224) s) ≡ pairs_of p s
-  part_turn count same = omega (arith, counted_of_225, rw (drop-drop 224 from s) at (shared_byte p (drop from s) 224))
-
--- behind the last part, which goes to the slice's end, all are counted
-pub parts_end :
-    (p : Pairs) (s : List ℕ) (from few : ℕ) → few ≡ pairs_of p (take (length s - from) (drop from s))
-    → (count : ℕ) → count + pairs_of p (drop from s) ≡ pairs_of p s → count + few ≡ pairs_of p s
-parts_end p s from few counted count same =
-    let to_end = take_all (length s - from) (drop from s) (simp length-drop (omega arith)) in
-    omega (arith, rw to_end at counted)
+-- The 225 bytes that a longer slice begins with, and so 224 pairs, of which `few` count: with those behind they are all.
+pub part_turn :
+    (p : Pairs) (rest : List ℕ) (few : ℕ) → 224 < length rest → few ≡ pairs_of p (take 225 rest)
+    → (few + length (drop 224 rest) ≤ length rest) × (few + pairs_of p (drop 224 rest) ≡ pairs_of p rest)
+part_turn p rest few long counted =
+    let size : length (take 225 rest) ≡ 225 = simp length-take (omega arith) in (
+      omega (arith, length-drop 224 rest, pairs_below p (take 225 rest) (omega arith)),
+      omega (arith, shared_byte p rest 224),
+    )

@@ -1,9 +1,7 @@
 -- Laws of passing, a law for each way that the code returns: which neighbour it answers, and where a cursor lands: for the
 -- functions of src/passing.rt, the loops, and an ordinary cell of a column. Assumes nothing.
-use Rattle.std.proofs.Common.{◌≡◌, ℕ, ◌+◌, ◌<◌, ◌≤◌, Bool, true, false, cond, not, List, length, get_or, drop, ap, ◌∙◌, arith}
-use mathlib.Core.List.{head?}
-use mathlib.Core.Option.{Option, none}
-use borrow.Author.Tests.{not-true, not-false}
+use Rattle.std.specs.Prelude.{Option, None, slice_get}
+use Rattle.std.proofs.Common.{◌≡◌, ℕ, ◌+◌, ◌<◌, ◌≤◌, Bool, true, false, cond, List, length, get_or, drop, ap, ◌∙◌, arith}
 use Rattle.reader.specs.declared.rule.Neighbour.{Neighbour}
 use Rattle.reader.specs.declared.passing.Syntax.{Syntax}
 use Rattle.reader.specs.Rule.{rule_of}
@@ -18,20 +16,20 @@ abbrev pub neighbour_where : Syntax → Bool → List ℕ → Neighbour
 neighbour_where x wanted bytes =
     cond wanted
     (neighbour_of (reading_with x) (nearest (reading_with x).separator (reading_with x).flags.consecutive bytes))
-    (neighbour_of (reading_with x) none)
+    (neighbour_of (reading_with x) None)
 
 module _ (x : Syntax) (wanted : Bool) (bytes : List ℕ) (r : Neighbour) where
-  pub unwanted : not wanted ≡ true → r ≡ neighbour_of (reading_with x) none → r ≡ neighbour_where x wanted bytes
-  unwanted t known = rw (not-true wanted t) known
+  pub unwanted : wanted ≡ false → r ≡ neighbour_of (reading_with x) None → r ≡ neighbour_where x wanted bytes
+  unwanted t known = rw t known
 
-  module _ (byte : Option ℕ) (t : not wanted ≡ false) (known : r ≡ neighbour_of (reading_with x) byte) where
+  module _ (byte : Option ℕ) (t : wanted ≡ true) (known : r ≡ neighbour_of (reading_with x) byte) where
     pub nearest_other : x.flags.consecutive ≡ true → byte ≡ first_other x.separator bytes → r ≡ neighbour_where x wanted bytes
     unfolding reading_with
-    nearest_other k e = rw (not-false wanted t) (known ∙ ap (neighbour_of (reading_with x)) (e ∙ rw k))
+    nearest_other k e = rw t (known ∙ ap (neighbour_of (reading_with x)) (e ∙ rw k))
 
-    pub nearest_byte : x.flags.consecutive ≡ false → byte ≡ head? bytes → r ≡ neighbour_where x wanted bytes
+    pub nearest_byte : x.flags.consecutive ≡ false → byte ≡ slice_get bytes 0 → r ≡ neighbour_where x wanted bytes
     unfolding reading_with
-    nearest_byte k e = rw (not-false wanted t) (known ∙ ap (neighbour_of (reading_with x)) (e ∙ rw k))
+    nearest_byte k e = rw t (known ∙ ap (neighbour_of (reading_with x)) (e ∙ rw k))
 
 -- Once a reader has counted, its rule is the entry's answer for the neighbour behind.
 pub asked_behind :
@@ -73,11 +71,8 @@ module _ (x : Syntax) (s : List ℕ) (is_first : Bool) (at : ℕ) where
       unfolding passed_at may_pass reading_with
       passed = rw (byte_here s at h, is_separator_lem x.separator _ positive equal, asked)
 
-      pub stays_by_rule : not may ≡ true → at ≡ landing_of
-      stays_by_rule t = rw (passed, not-true may t) (omega arith)
-
-      pub passes_one : not may ≡ false → x.flags.consecutive ≡ false → at + 1 ≡ landing_of
-      passes_one t k = rw (passed, not-false may t, k)
+      pub passes_one : may ≡ true → x.flags.consecutive ≡ false → at + 1 ≡ landing_of
+      passes_one t k = rw (passed, t, k)
 
       -- the same where the rule was asked of the byte behind alone
       pub stays_behind : may ≡ false → at ≡ landing_of
@@ -86,5 +81,5 @@ module _ (x : Syntax) (s : List ℕ) (is_first : Bool) (at : ℕ) where
       pub passes_behind : (r : ℕ) → may ≡ true → r ≡ at + cond x.flags.consecutive (separator_run x.separator (drop at s)) 1 → r ≡ landing_of
       passes_behind r t e = rw (passed, t) e
 
-      pub passes_run : (r : ℕ) → not may ≡ false → x.flags.consecutive ≡ true → r ≡ run_end x.separator s at → r ≡ landing_of
-      passes_run r t k e = rw (passed, not-false may t, k) e
+      pub passes_run : (r : ℕ) → may ≡ true → x.flags.consecutive ≡ true → r ≡ run_end x.separator s at → r ≡ landing_of
+      passes_run r t k e = rw (passed, t, k) e

@@ -1,7 +1,7 @@
 -- What a reader passes at a place, over any reading: separators only, within the buffer, and only where its rule lets it. The calls of
 -- skip and the byte tally stand on it. Assumes nothing.
+use Rattle.std.specs.Prelude.{Option, Some, None}
 use Rattle.std.proofs.Common.{◌≡◌, ℕ, suc, ◌+◌, ◌<◌, ◌≤◌, Bool, true, false, cond, not, eqb, List, [], ◌∷◌, length, get_or, take, drop, replicate, sym, refl, arith, length-drop, drop-cons, eqb-true}
-use mathlib.Core.Option.{Option, some, none}
 use Rattle.reader.specs.Place.{is_separator, byte_at, separator_run, first_other}
 use Rattle.reader.specs.Reading.{Reading, may_pass, passed_at, passes_byte, previous, following}
 use Rattle.reader.proofs.passing.Places.{byte_inside, byte_here}
@@ -20,8 +20,8 @@ module _ (m : Reading) (s : List ℕ) (is_first : Bool) (place : ℕ) where
   unfolding may_pass
   one_fits e = go (byte_at s place) refl e where
     go : (o : Option ℕ) → byte_at s place ≡ o → passes_byte m s is_first place o ≡ true → place < length s
-    go none q h = absurd (let z : ◌≡◌ {A = ℕ} 0 1 = cc in omega arith)
-    go (some b) q h = byte_inside s place b q
+    go None q h = absurd (let z : ◌≡◌ {A = ℕ} 0 1 = cc in omega arith)
+    go (Some b) q h = byte_inside s place b q
 
   pub passed_fits : place ≤ length s → place + passed_at m s is_first place ≤ length s
   unfolding passed_at
@@ -46,20 +46,20 @@ run_only separator (b ∷ l) = go (is_separator separator b) refl (run_only sepa
   go true e rest = rw (e, separator_is separator b e, rest)
   go false e rest = rw e
 
-pub other_differs : (separator : ℕ) (l : List ℕ) (b : ℕ) → first_other separator l ≡ some b → is_separator separator b ≡ false
+pub other_differs : (separator : ℕ) (l : List ℕ) (b : ℕ) → first_other separator l ≡ Some b → is_separator separator b ≡ false
 other_differs separator [] b e = absurd (let z : ◌≡◌ {A = ℕ} 0 1 = cc in omega arith)
 other_differs separator (c ∷ l) b e = go (is_separator separator c) refl e (other_differs separator l b) where
   go :
-      (t : Bool) → is_separator separator c ≡ t → first_other separator (c ∷ l) ≡ some b
-      → (first_other separator l ≡ some b → is_separator separator b ≡ false) → is_separator separator b ≡ false
+      (t : Bool) → is_separator separator c ≡ t → first_other separator (c ∷ l) ≡ Some b
+      → (first_other separator l ≡ Some b → is_separator separator b ≡ false) → is_separator separator b ≡ false
   go true q h rest = rest (rw q at h)
-  go false q h rest = let same : some c ≡ some b = rw q at h in let byte : c ≡ b = cc in rw (sym byte) q
+  go false q h rest = let same : Some c ≡ Some b = rw q at h in let byte : c ≡ b = cc in rw (sym byte) q
 
 module _ (m : Reading) (s : List ℕ) (is_first : Bool) (place : ℕ) where
   -- where a reader may pass there is a separator, and its rule holds
   pub record PassesHere : Type 0 where
     pub byte : ℕ
-    pub here : byte_at s place ≡ some byte
+    pub here : byte_at s place ≡ Some byte
     pub separator : is_separator m.separator byte ≡ true
     pub rule : m.rule is_first (previous m s place) (following m s place) ≡ true
 
@@ -67,8 +67,8 @@ module _ (m : Reading) (s : List ℕ) (is_first : Bool) (place : ℕ) where
   unfolding may_pass
   passes_here e = go (byte_at s place) refl e where
     go : (o : Option ℕ) → byte_at s place ≡ o → passes_byte m s is_first place o ≡ true → PassesHere
-    go none q h = absurd (let z : ◌≡◌ {A = ℕ} 0 1 = cc in omega arith)
-    go (some b) q h = record { byte = b; here = q; separator = and_left _ _ h; rule = and_right (is_separator m.separator b) _ h }
+    go None q h = absurd (let z : ◌≡◌ {A = ℕ} 0 1 = cc in omega arith)
+    go (Some b) q h = record { byte = b; here = q; separator = and_left _ _ h; rule = and_right (is_separator m.separator b) _ h }
 
   pub passes_none : may_pass m s is_first place ≡ false → passed_at m s is_first place ≡ 0
   unfolding passed_at

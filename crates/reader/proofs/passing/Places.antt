@@ -1,17 +1,25 @@
 -- Laws of a place and the bytes around it, by index, as a search over a slice meets them: for every room. Assumes nothing.
-use Rattle.std.proofs.Common.{◌≡◌, ℕ, zero, suc, ◌+◌, ◌-◌, ◌%◌, ◌^◌, ◌<◌, ◌≤◌, Bool, true, false, cond, not, eqb, ltb, List, [], ◌∷◌, length, get_or, take, drop, sym, refl, ◌∙◌, ⊎_elim, eq-zero-or-pos, add-one, arith, drop_of_length-le, drop-cons, drop-drop, ltb-false, ltb-true, eq-eqb, ne_eqb}
-use mathlib.Core.List.{reverse_aux, head?}
-use mathlib.Core.Option.{some, none, Option}
+use Rattle.std.specs.Prelude.{Some, None, Option, slice_get}
+use Rattle.std.specs.Borrow.{Bor}
+use Rattle.std.specs.Option.{option_copied}
+use Rattle.std.specs.Slice.{IsItemAt}
+use Rattle.std.proofs.Common.{ap, ◌≡◌, ℕ, zero, suc, ◌+◌, ◌-◌, ◌%◌, ◌^◌, ◌<◌, ◌≤◌, Bool, true, false, cond, not, eqb, ltb, List, [], ◌∷◌, length, get_or, take, drop, sym, refl, ◌∙◌, ⊎_elim, eq-zero-or-pos, add-one, arith, drop_of_length-le, drop-cons, drop-drop, ltb-false, ltb-true, eq-eqb, ne_eqb}
+use mathlib.Core.List.{reverse_aux}
 use Rattle.reader.specs.Place.{is_separator, byte_at, before, first_other, separator_run}
 use Rattle.reader.proofs.Booleans.{and_false}
 
 -- the byte at an index
 module _ (s : List ℕ) (i : ℕ) where
-  pub byte_here : i < length s → byte_at s i ≡ some (get_or s i 0)
+  pub byte_here : i < length s → byte_at s i ≡ Some (get_or s i 0)
   byte_here h = rw (drop-cons s i 0 h)
 
-  pub no_byte : length s ≤ i → byte_at s i ≡ none
+  pub no_byte : length s ≤ i → byte_at s i ≡ None
   no_byte h = rw (drop_of_length-le s h)
+
+-- what `get` lends, copied, is the byte there
+pub byte_got : (s : List ℕ) (i : ℕ) (r : Option (Bor ℕ)) → IsItemAt s i r → option_copied r ≡ byte_at s i
+byte_got s i None got = sym (no_byte s i got.3)
+byte_got s i (Some x) got = ap Some (got.4 (omega arith) 0) ∙ sym (byte_here s i got.3.0)
 
 -- which byte is a separator
 pub is_separator_lem : (separator b : ℕ) → 0 < separator → b ≡ separator → is_separator separator b ≡ true
@@ -50,7 +58,7 @@ module _ (s : List ℕ) (at i : ℕ) (small : length s < 2 ^ 64) (within : at �
   some_before : i < length s → before s at ≡ get_or s i 0 ∷ before s i
   some_before h = let inside : at ≡ i + 1 = omega arith in rw inside (before_next s i h)
 
-  pub byte_before : byte_at s i ≡ head? (before s at)
+  pub byte_before : byte_at s i ≡ slice_get (before s at) 0
   byte_before =
       ⊎_elim
       (λ start. rw (no_byte s i (omega arith), none_before (omega arith)))
@@ -76,7 +84,7 @@ module _ (separator : ℕ) (s : List ℕ) (at i : ℕ) (small : length s < 2 ^ 6
     -- one turn: what is found is this byte, or what is found from its place
     turn :
         i < length s
-        → cond (is_separator separator (get_or s i 0)) (first_other separator (before s i)) (some (get_or s i 0))
+        → cond (is_separator separator (get_or s i 0)) (first_other separator (before s i)) (Some (get_or s i 0))
         ≡ first_other separator (before s at)
     turn h = rw (some_before s (place_after i) i small here.within (omega arith) h) at here.same
 
@@ -98,13 +106,13 @@ abbrev pub run_end : ℕ → List ℕ → ℕ → ℕ
 run_end separator s i = i + separator_run separator (drop i s)
 
 -- the byte after the separators that a list begins with
-pub run_head : (separator : ℕ) (l : List ℕ) → head? (drop (separator_run separator l) l) ≡ first_other separator l
+pub run_head : (separator : ℕ) (l : List ℕ) → slice_get (drop (separator_run separator l) l) 0 ≡ first_other separator l
 run_head separator [] = refl
 run_head separator (b ∷ l) = go (is_separator separator b) refl (run_head separator l) where
   go :
       (t : Bool) → is_separator separator b ≡ t
-      → head? (drop (separator_run separator l) l) ≡ first_other separator l
-      → head? (drop (separator_run separator (b ∷ l)) (b ∷ l)) ≡ first_other separator (b ∷ l)
+      → slice_get (drop (separator_run separator l) l) 0 ≡ first_other separator l
+      → slice_get (drop (separator_run separator (b ∷ l)) (b ∷ l)) 0 ≡ first_other separator (b ∷ l)
   go true e rest = rw e rest
   go false e rest = rw e
 
@@ -123,11 +131,11 @@ module _ (separator : ℕ) (s : List ℕ) (i : ℕ) where
   run_over h positive same = rw (drop-cons s i 0 h, is_separator_lem separator _ positive same, add-one) (omega arith)
 
 -- no byte and a byte are not the same
-pub none_there : (b : ℕ) → ◌≡◌ {A = Option ℕ} none (some b) → ⊥
+pub none_there : (b : ℕ) → ◌≡◌ {A = Option ℕ} None (Some b) → ⊥
 none_there b e = let z : ◌≡◌ {A = ℕ} 0 1 = cc in omega arith
 
 -- a byte lies within the buffer
-pub byte_inside : (s : List ℕ) (k b : ℕ) → byte_at s k ≡ some b → k < length s
+pub byte_inside : (s : List ℕ) (k b : ℕ) → byte_at s k ≡ Some b → k < length s
 byte_inside s k b e = go (ltb k (length s)) refl where
   go : (t : Bool) → ltb k (length s) ≡ t → k < length s
   go true t = ltb-true k (length s) t

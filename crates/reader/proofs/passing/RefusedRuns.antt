@@ -1,6 +1,7 @@
 -- A run of separators under the consecutive flag: its separators have the same neighbours, so where one is refused the next is too. For
 -- the loops that take or read such a run at once. Assumes nothing.
-use Rattle.std.proofs.Common.{◌≡◌, ℕ, suc, ◌+◌, ◌<◌, Bool, true, false, cond, not, eqb, List, [], ◌∷◌, length, get_or, drop, refl, ⊎_elim, eq-zero-or-pos, add-one, arith, length-drop, drop-cons, eq-eqb}
+use Rattle.std.proofs.Common.{◌≡◌, ℕ, zero, suc, ◌+◌, ◌<◌, Bool, true, false, cond, not, eqb, List, [], ◌∷◌, length, get_or, drop, refl, ⊎_elim, eq-zero-or-pos, add-one, arith, length-drop, drop-cons, eq-eqb}
+use Rattle.std.proofs.Math.Dec.{eqb-suc-zero}
 use Rattle.reader.specs.Place.{is_separator, before, after, first_other, separator_run}
 use Rattle.reader.specs.Reading.{Reading, may_pass, passed_at}
 use Rattle.reader.proofs.Booleans.{contradicts}
@@ -29,6 +30,10 @@ module _ (separator : ℕ) (s : List ℕ) (at k : ℕ) (e : separator_run separa
 
 pub positive : (separator : ℕ) → not (eqb separator 0) ≡ true → 0 < separator
 positive separator e = ⊎_elim (λ z. absurd (contradicts (rw (eq-eqb separator 0 z) at e))) (λ p. p) (eq-zero-or-pos separator)
+
+pub not_zero : (separator : ℕ) → 0 < separator → not (eqb separator 0) ≡ true
+not_zero zero positive = absurd (omega arith)
+not_zero (suc n) positive = rw (eqb-suc-zero n)
 
 -- one or a run: from a separator it is a way forward
 pub goes_on :

@@ -1,11 +1,13 @@
 -- What the rules share, each by one test over every case, which antt computes: for passing, the column and demand 3. Assumes nothing.
-use Rattle.std.proofs.Common.{◌≡◌, ℕ, Bool, true, false, cond, not, ◌&&◌, ◌||◌, T, sym, refl, ◌∙◌, arith}
+use Rattle.std.proofs.Common.{◌≡◌, ℕ, ◌^◌, Bool, true, false, cond, not, ◌&&◌, ◌||◌, T, sym, refl, ◌∙◌, arith}
 use mathlib.Core.Bool.{beq}
 use Rattle.reader.specs.declared.rule.Flags.{Flags}
 use Rattle.reader.specs.declared.rule.Neighbour.{Neighbour}
+use Rattle.reader.specs.declared.rule.Later.{Later}
 use Rattle.reader.specs.Rule.{rule_of, names_of}
 use Rattle.word.specs.Bits.{bit}
-use Rattle.reader.specs.Code.RuleWords.{cell_of}
+use native.Mathlib.Nat.{zero-div}
+use Rattle.reader.specs.Code.RuleWords.{code_of, IsLater}
 use Rattle.reader.proofs.rule.Table.{same, every, every_cell, every_pair, cell_at, pair_at}
 
 -- a test passes for every cell with every two neighbours
@@ -60,21 +62,14 @@ all_look_behind = tt
 pub later_looks_behind : (flags : Flags) (p n : Neighbour) → rule_of flags false absent n ≡ rule_of flags false p n
 later_looks_behind flags p n = same _ _ (case_at looks_behind all_look_behind flags false p n)
 
--- the cells of the source's mask: their rule never holds
-abbrev never_holds : Flags → Bool → Neighbour → Neighbour → Bool
-never_holds flags is_first p n = not (bit 0x00230023 (cell_of flags is_first)) || beq (rule_of flags is_first p n) false
+-- a word without a bit has none at any place
+no_bit : (k : ℕ) → bit 0 k ≡ false
+unfolding bit
+no_bit k = rw (zero-div (2 ^ k))
 
-all_never : T (every_case never_holds)
-unfolding every every_cell every_pair every_case rule_of bit
-all_never = tt
-
-if_so : (a b : Bool) → T (not a || beq b false) → a ≡ true → b ≡ false
-if_so true b t e = same b false t
-if_so false b t e = absurd (let z : ◌≡◌ {A = ℕ} 0 1 = cc in omega arith)
-
-pub never_holds_lem :
-    (flags : Flags) (is_first : Bool) (p n : Neighbour) → bit 0x00230023 (cell_of flags is_first) ≡ true → rule_of flags is_first p n ≡ false
-never_holds_lem flags is_first p n = if_so _ _ (case_at never_holds all_never flags is_first p n)
+-- where the word of a reader that has counted has no bit, its rule never holds
+pub never_holds : (flags : Flags) (l : Later) → IsLater flags l → l.0 ≡ 0 → (p n : Neighbour) → rule_of flags false p n ≡ false
+never_holds flags l later none p n = sym (later.holds p n) ∙ rw none (no_bit (code_of n))
 
 -- a neighbour that is a separator, and so no digit
 abbrev pub a_separator : Neighbour

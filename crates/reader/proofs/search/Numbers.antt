@@ -1,5 +1,5 @@
 -- Digits as one number, over any base and any count: two such numbers are equal exactly when the digits are, and two side by side are the
--- number of all their digits. For the search that compares eight bytes at once. Assumes nothing.
+-- number of all their digits. Theorems, used by no function: the compare of eight bytes is compiled to one of two numbers. Assumes nothing.
 use Rattle.std.proofs.Common.{◌≡◌, ℕ, ◌+◌, ◌*◌, ◌/◌, ◌%◌, ◌^◌, ◌<◌, ◌≤◌, List, [], ◌∷◌, ◌++◌, length, get_or, take, drop, sym, refl, ap, ◌∙◌, add_assoc, mod-eq_of_lt, mul_assoc, mul-le-mul_left, zero-add, mul-add, arith, length-append, drop-cons, drop-drop, take-add}
 use native.Mathlib.Nat.{pow-zero, pow-succ', add-mul-mod_self_left, add-mul-div_left, div-eq_of_lt}
 use Rattle.reader.specs.Code.Eights.{number_in, AllBelow, NumberOf, BytesAt}

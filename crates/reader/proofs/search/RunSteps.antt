@@ -1,7 +1,6 @@
 -- Steps over separators, of any width: for the loops of the search. Assumes nothing.
-use Rattle.std.proofs.Common.{◌≡◌, ℕ, zero, suc, ◌+◌, ◌-◌, ◌*◌, ◌/◌, ◌%◌, ◌<◌, ◌≤◌, Bool, true, false, ◌||◌, eqb, leb, List, [], ◌∷◌, length, get_or, take, drop, replicate, sym, refl, ap, ◌∙◌, add-zero, zero-add, mul-add, arith, length-drop, drop_of_length-le, drop-cons, drop-drop, eqb-true, leb-false, leb-true}
+use Rattle.std.proofs.Common.{◌≡◌, ℕ, zero, suc, ◌+◌, ◌-◌, ◌*◌, ◌/◌, ◌%◌, ◌<◌, ◌≤◌, Bool, true, false, leb, List, [], ◌∷◌, length, get_or, take, drop, replicate, sym, refl, ap, ◌∙◌, add-zero, zero-add, mul-add, arith, length-drop, drop_of_length-le, drop-cons, drop-drop, leb-false, leb-true}
 use native.Mathlib.Nat.{mul-add-div, div-eq_of_lt}
-use borrow.Author.Tests.{eqb-false}
 use Rattle.reader.specs.Place.{is_separator, separator_run}
 use Rattle.reader.specs.Search.{run_search_of}
 use Rattle.reader.proofs.passing.Places.{is_separator_lem, no_separator_at_all, run_end}
@@ -84,19 +83,14 @@ module _ (separator : ℕ) (s : List ℕ) where
       rw (to, left, by-eight)
 
   -- no separator, or no byte: no step
-  pub no_step : (at : ℕ) → (eqb separator 0 || leb (length s) at) ≡ true → record { end = at; eights = 0; ones = 0 } ≡ run_search_of separator s at
-  no_step at e = rw (none_there (eqb separator 0) refl, add-zero at) where
-    none_of : (l : List ℕ) → separator ≡ 0 → separator_run separator l ≡ 0
-    none_of [] z = refl
-    none_of (b ∷ l) z = rw (no_separator_at_all separator b z)
+  no_run : (at : ℕ) → run at ≡ 0 → record { end = at; eights = 0; ones = 0 } ≡ run_search_of separator s at
+  no_run at e = rw (e, add-zero at)
 
-    none_there : (t : Bool) → eqb separator 0 ≡ t → run at ≡ 0
-    none_there true t = none_of (drop at s) (eqb-true separator 0 t)
-    none_there false t = rw (drop_of_length-le s (leb-true (length s) at (rw t at e)))
+  pub no_separator_sought : (at : ℕ) → separator ≡ 0 → record { end = at; eights = 0; ones = 0 } ≡ run_search_of separator s at
+  no_separator_sought at unset = no_run at (none_of (drop at s)) where
+    none_of : (l : List ℕ) → separator_run separator l ≡ 0
+    none_of [] = refl
+    none_of (b ∷ l) = rw (no_separator_at_all separator b unset)
 
-  pub may_step : (at : ℕ) → (eqb separator 0 || leb (length s) at) ≡ false → (0 < separator) × (at ≤ length s)
-  may_step at e = go (eqb separator 0) (leb (length s) at) refl refl where
-    go : (t u : Bool) → eqb separator 0 ≡ t → leb (length s) at ≡ u → (0 < separator) × (at ≤ length s)
-    go true u t q = absurd (let z : ◌≡◌ {A = ℕ} 0 1 = cc in omega arith)
-    go false true t q = absurd (let z : ◌≡◌ {A = ℕ} 0 1 = cc in omega arith)
-    go false false t q = (omega (arith, eqb-false separator 0 t), omega (arith, leb-false (length s) at q))
+  pub nothing_left : (at : ℕ) → length s ≤ at → record { end = at; eights = 0; ones = 0 } ≡ run_search_of separator s at
+  nothing_left at out = no_run at (rw (drop_of_length-le s out))

@@ -1,16 +1,14 @@
 -- The block take: what it answers where it is refused and where it is not, and which part of the buffer its block is. Assumes nothing.
+use Rattle.std.specs.Prelude.{Option, Some, None, Result}
 use Rattle.std.proofs.Common.{◌≡◌, ℕ, ◌+◌, ◌-◌, ◌≤◌, min, Bool, true, false, eqb, List, [], length, take, drop, sym, refl, ap, ◌∙◌, arith, eqb-true}
-use mathlib.Core.Option.{some, none}
 use Rattle.std.specs.Borrow.{Bor}
 use Rattle.reader.specs.declared.state.Reader.{Reader}
 use Rattle.reader.specs.declared.state.State.{State}
 use Rattle.reader.specs.declared.state.Refusal.{Refusal}
-use Rattle.reader.specs.declared.skip.Block.{Block}
-use Rattle.reader.specs.declared.skip.Block.TheVariants.{Taken}
-use Rattle.reader.specs.declared.skip.BlockAnswer.{BlockAnswer}
+use Rattle.reader.specs.declared.answer.Answer.{Answer}
 use Rattle.reader.specs.State.{moved_to}
 use Rattle.reader.specs.Reading.{Reading, reading_for, has_any_flag}
-use Rattle.reader.specs.Answer.{number_of, BlockOutcome, block_bytes, block_outcome_of}
+use Rattle.reader.specs.Answer.{number_of, found_in, BlockOutcome, block_outcome_of}
 use Rattle.reader.specs.Block.{block_refusal, refused_block, block_from, take_n_of, take_n_part, part_start, BlockPart}
 use Rattle.reader.proofs.state.Refusals.{block_within, refusal_tells}
 use Rattle.reader.proofs.passing.Places.{none_there}
@@ -28,10 +26,10 @@ module _ (m : Reading) (s : List ℕ) (st : State) (r : Reader) (n : ℕ) where
   abbrev Inside : ℕ → Type 0
   Inside k = ((take_n_of m s st r n).state.cursor ≡ st.cursor + k) × (st.cursor + k ≤ length s)
 
-  block_inside : (k : ℕ) → (take_n_of m s st r n).block ≡ some k → Inside k
+  block_inside : (k : ℕ) → (take_n_of m s st r n).block ≡ Some k → Inside k
   unfolding take_n_of moved_to
   block_inside k e = go (eqb (block_refusal s st r) 0) (has_any_flag m.flags) refl refl e where
-    go : (t u : Bool) → eqb (block_refusal s st r) 0 ≡ t → has_any_flag m.flags ≡ u → (take_n_of m s st r n).block ≡ some k → Inside k
+    go : (t u : Bool) → eqb (block_refusal s st r) 0 ≡ t → has_any_flag m.flags ≡ u → (take_n_of m s st r n).block ≡ Some k → Inside k
     go true false t u h =
         let same : min n (length s - st.cursor) ≡ k = cc (rw (t, u) at h) in
         let inside = block_within s st r (eqb-true (block_refusal s st r) 0 t) in
@@ -40,16 +38,16 @@ module _ (m : Reading) (s : List ℕ) (st : State) (r : Reader) (n : ℕ) where
     go false u t _ h = absurd (none_there k (rw t at h))
 
   -- of an answer: its block lies between the two cursors, and is the part of the definition
-  module _ (a : BlockAnswer) (e : block_outcome_of a ≡ take_n_of m s st r n) where
-    bytes : block_bytes a.report.block a.report.taken ≡ (take_n_of m s st r n).block
+  module _ (a : Answer (Result (Option ℕ) Refusal)) (e : block_outcome_of a ≡ take_n_of m s st r n) where
+    bytes : found_in a.report.found ≡ (take_n_of m s st r n).block
     bytes = ap (λ (o : BlockOutcome). o.block) e
 
-    module _ (taken : a.report.block ≡ Taken) where
-      answered : (take_n_of m s st r n).block ≡ some a.report.taken
-      answered = sym bytes ∙ ap (λ (b : Block). block_bytes b a.report.taken) taken
+    module _ (k : ℕ) (taken : found_in a.report.found ≡ Some k) where
+      answered : (take_n_of m s st r n).block ≡ Some k
+      answered = sym bytes ∙ taken
 
-      moves : (a.state.cursor ≡ st.cursor + a.report.taken) × (st.cursor + a.report.taken ≤ length s)
-      moves = rw (sym (ap (λ (o : BlockOutcome). o.state) e)) at (block_inside a.report.taken answered)
+      moves : (a.state.cursor ≡ st.cursor + k) × (st.cursor + k ≤ length s)
+      moves = rw (sym (ap (λ (o : BlockOutcome). o.state) e)) at (block_inside k answered)
 
       pub part_within : (st.cursor ≤ a.state.cursor) × (a.state.cursor ≤ length s)
       part_within = (omega (arith, moves.0), omega (arith, moves.0, moves.1))
@@ -57,13 +55,13 @@ module _ (m : Reading) (s : List ℕ) (st : State) (r : Reader) (n : ℕ) where
       part_taken : take (a.state.cursor - st.cursor) (drop st.cursor s) ≡ take_n_part m s st r n
       unfolding take_n_part
       part_taken =
-          let same : a.state.cursor - st.cursor ≡ a.report.taken = omega (arith, moves.0) in
+          let same : a.state.cursor - st.cursor ≡ k = omega (arith, moves.0) in
           rw (answered, same)
 
       part_start_lem : st.cursor ≡ part_start st.cursor (take_n_of m s st r n).block
       part_start_lem = rw answered
 
-    module _ (nothing : block_bytes a.report.block a.report.taken ≡ none) where
+    module _ (nothing : found_in a.report.found ≡ None) where
       none_part : [] ≡ take_n_part m s st r n
       unfolding take_n_part
       none_part = rw (sym bytes, nothing)
@@ -76,21 +74,22 @@ abbrev pub sub : Bor (List ℕ) → ℕ → List ℕ → Bor (List ℕ)
 sub lent start contents = record { ref_ptr = (lent.ref_ptr.0, start + lent.ref_ptr.1); now = contents }
 
 -- the lent slice between the two cursors is the part of a block; where there is none, its empty part at the start is
-module _ (lent : Bor (List ℕ)) (st : State) (r : Reader) (n : ℕ) (a : BlockAnswer) (e : block_outcome_of a ≡ take_n_of (reading_for st r) lent.now st r n) where
-  pub part_of_block : a.report.block ≡ Taken → BlockPart lent st r n (sub lent st.cursor (take (a.state.cursor - st.cursor) (drop st.cursor lent.now)))
-  part_of_block taken =
+module _ (lent : Bor (List ℕ)) (st : State) (r : Reader) (n : ℕ) (a : Answer (Result (Option ℕ) Refusal))
+    (e : block_outcome_of a ≡ take_n_of (reading_for st r) lent.now st r n) where
+  pub part_of_block : (k : ℕ) → found_in a.report.found ≡ Some k → BlockPart lent st r n (sub lent st.cursor (take (a.state.cursor - st.cursor) (drop st.cursor lent.now)))
+  part_of_block k taken =
       let m = reading_for st r in
       record {
         block = refl;
-        offset = ap (λ (k : ℕ). k + lent.ref_ptr.1) (part_start_lem m lent.now st r n a e taken);
-        bytes = part_taken m lent.now st r n a e taken;
+        offset = ap (λ (p : ℕ). p + lent.ref_ptr.1) (part_start_lem m lent.now st r n a e k taken);
+        bytes = part_taken m lent.now st r n a e k taken;
       }
 
-  pub part_of_none : block_bytes a.report.block a.report.taken ≡ none → BlockPart lent st r n (sub lent 0 [])
+  pub part_of_none : found_in a.report.found ≡ None → BlockPart lent st r n (sub lent 0 [])
   part_of_none nothing =
       let m = reading_for st r in
       record {
         block = refl;
-        offset = ap (λ (k : ℕ). k + lent.ref_ptr.1) (none_start m lent.now st r n a e nothing);
+        offset = ap (λ (p : ℕ). p + lent.ref_ptr.1) (none_start m lent.now st r n a e nothing);
         bytes = none_part m lent.now st r n a e nothing;
       }

@@ -1,7 +1,7 @@
 -- Takes on plain numbers: how these stand for the state of a list of takes, so that their sums are the takes' own (`sums_are_takes`, which
 -- take_all and the column cite). Assumes nothing.
+use Rattle.std.specs.Prelude.{Some, None}
 use Rattle.std.proofs.Common.{◌≡◌, ℕ, zero, suc, ◌+◌, ◌-◌, ◌<◌, ◌≤◌, Bool, true, false, cond, ◌&&◌, eqb, ltb, List, length, get_or, refl, ap, add-zero, arith, ltb-false, ltb-true}
-use mathlib.Core.Option.{some, none}
 use Rattle.reader.specs.declared.state.Reader.{Reader}
 use Rattle.reader.specs.declared.state.Reader.TheVariants.{Integer, Fraction, Exponent, Special}
 use Rattle.reader.specs.declared.state.State.{State}
@@ -75,12 +75,12 @@ module _ (m : Reading) (s : List ℕ) (r : Reader) (st : State) (clear : refusal
     module _ (place : ℕ) (lands : place ≡ at + passed_at m s (eqb count 0) at) where
       -- a take that finds a byte
       takes_byte : place < length s → next_of m s now r
-          ≡ record { refusal = 0; byte = some (get_or s place 0); taken = 1; passed = place - at; state = taken_from m r (get_or s place 0) (state_at st r place count) }
+          ≡ record { refusal = 0; byte = Some (get_or s place 0); taken = 1; passed = place - at; state = taken_from m r (get_or s place 0) (state_at st r place count) }
       unfolding next_of
       takes_byte h = rw (peeks_at s r st at count here.stands m clear place lands, byte_here s place h)
 
       -- a take that finds the end
-      takes_end : length s ≤ place → next_of m s now r ≡ record { refusal = 0; byte = none; taken = 0; passed = place - at; state = state_at st r place count }
+      takes_end : length s ≤ place → next_of m s now r ≡ record { refusal = 0; byte = None; taken = 0; passed = place - at; state = state_at st r place count }
       unfolding next_of
       takes_end h = rw (peeks_at s r st at count here.stands m clear place lands, no_byte s place h)
 
@@ -108,7 +108,7 @@ module _ (m : Reading) (s : List ℕ) (r : Reader) (st : State) (clear : refusal
 
       -- where the end is found the list of takes is over
       pub running_over : length s ≤ place
-          → record { refusal = 0; byte = none; taken = at - st.cursor - passed; passed = passed + (place - at); state = state_at st r place count }
+          → record { refusal = 0; byte = None; taken = at - st.cursor - passed; passed = passed + (place - at); state = state_at st r place count }
           ≡ repeated (length s) (take m s r) st
       running_over out =
           let last = takes_end out in
@@ -117,7 +117,7 @@ module _ (m : Reading) (s : List ℕ) (r : Reader) (st : State) (clear : refusal
 
     -- so it is where the loop comes to the end: the last take passes nothing
     pub running_out : length s ≤ at
-        → record { refusal = 0; byte = none; taken = at - st.cursor - passed; passed = passed; state = now } ≡ repeated (length s) (take m s r) st
+        → record { refusal = 0; byte = None; taken = at - st.cursor - passed; passed = passed; state = now } ≡ repeated (length s) (take m s r) st
     running_out out =
         let stays : at ≡ at + passed_at m s (eqb count 0) at = rw (end_passes_none m s (eqb count 0) at out) (omega arith) in
         let none_passed : passed + (at - at) ≡ passed = omega arith in

@@ -1,7 +1,7 @@
 -- Where a take leaves the cursor, takes from a refused state, and that takes to the end have come to their end:
 -- for this room and the reads of a zero skip. Assumes nothing.
+use Rattle.std.specs.Prelude.{Option, Some, None}
 use Rattle.std.proofs.Common.{◌≡◌, ℕ, ◌+◌, ◌<◌, ◌≤◌, Bool, true, false, cond, ◌&&◌, eqb, List, length, sym, refl, ap, ◌∙◌, eqb-true}
-use mathlib.Core.Option.{Option, some, none}
 use Rattle.reader.specs.declared.state.Reader.{Reader}
 use Rattle.reader.specs.declared.state.State.{State}
 use Rattle.reader.specs.declared.state.Refusal.{Refusal}
@@ -29,23 +29,23 @@ pub record StandsOn (s : List ℕ) (st : State) (o : Outcome) : Type 0 where
   pub sums : count_sum o.state ≤ st.cursor
 
 module _ (m : Reading) (s : List ℕ) (st : State) (r : Reader) where
-  pub peek_byte : (b : ℕ) → (peek_of m s st r).byte ≡ some b → StandsOn s st (peek_of m s st r)
+  pub peek_byte : (b : ℕ) → (peek_of m s st r).byte ≡ Some b → StandsOn s st (peek_of m s st r)
   unfolding peek_of peeked moved_to
   peek_byte b e = go (eqb (refusal_of m s st r) 0) refl e where
-    go : (t : Bool) → eqb (refusal_of m s st r) 0 ≡ t → (peek_of m s st r).byte ≡ some b → StandsOn s st (peek_of m s st r)
+    go : (t : Bool) → eqb (refusal_of m s st r) 0 ≡ t → (peek_of m s st r).byte ≡ Some b → StandsOn s st (peek_of m s st r)
     go true t h =
         let clear = eqb-true (refusal_of m s st r) 0 t in
         rw t (record { moves = refl; inside = byte_inside s _ b (rw t at h); sums = (within m.flags s st r clear).1 })
     go false t h = absurd (none_there b (rw t at h))
 
   -- a take with a byte took one
-  pub next_takes_one : (b : ℕ) → (next_of m s st r).byte ≡ some b → TakesOne s st (next_of m s st r)
+  pub next_takes_one : (b : ℕ) → (next_of m s st r).byte ≡ Some b → TakesOne s st (next_of m s st r)
   unfolding next_of
   next_takes_one b e = go (peek_of m s st r).byte refl e where
-    go : (o : Option ℕ) → (peek_of m s st r).byte ≡ o → (take_byte m r (peek_of m s st r) o).byte ≡ some b
+    go : (o : Option ℕ) → (peek_of m s st r).byte ≡ o → (take_byte m r (peek_of m s st r) o).byte ≡ Some b
         → TakesOne s st (take_byte m r (peek_of m s st r) o)
-    go none q h = absurd (none_there b (sym q ∙ h))
-    go (some c) q h =
+    go None q h = absurd (none_there b (sym q ∙ h))
+    go (Some c) q h =
         let p = peek_byte c q in
         record { moves = taken_moves m r c (peek_of m s st r).state ∙ ap (λ (n : ℕ). n + 1) p.moves; inside = p.inside; one = refl }
 
@@ -59,6 +59,6 @@ refused_at_once m s st r e number =
     sym (repeated-stops (λ here. next_of m s here r) (length s) st (ap (λ (o : Outcome). o.byte) next) ∙ next)
 
 -- takes to the end have come to their end: the last one answers no byte
-pub takes_end_all : (m : Reading) (s : List ℕ) (st : State) (r : Reader) → (next_all_of m s st r).byte ≡ none
+pub takes_end_all : (m : Reading) (s : List ℕ) (st : State) (r : Reader) → (next_all_of m s st r).byte ≡ None
 unfolding next_all_of
 takes_end_all m s st r = repeated_ends s (λ here. next_of m s here r) (λ here. next_takes_one m s here r) st

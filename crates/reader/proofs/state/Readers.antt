@@ -1,14 +1,14 @@
--- Who is named, from what `reader_named`, or a test over it, found: for export and script, which are given a byte. Assumes nothing.
-use Rattle.std.proofs.Common.{◌≡◌, sym, ap, ◌∙◌}
-use mathlib.Core.Option.{Option, some, none}
+-- Who is named, from what `Reader::try_from`, or a test over it, found: for export and script, which are given a byte. Assumes nothing.
+use Rattle.std.specs.Prelude.{Option, Some, None, Ok, Err, ok_or}
+use Rattle.std.proofs.Common.{◌≡◌, arith}
 use Rattle.reader.specs.declared.state.Reader.{Reader}
-use Rattle.reader.specs.declared.state.Named.{Named}
-use Rattle.reader.specs.declared.state.Named.TheVariants.{Known, Unknown}
-use Rattle.reader.specs.State.{named_reader}
+use Rattle.reader.specs.declared.state.UnknownReader.{UnknownReader}
 
-module _ (who : Option Reader) (by : Named) (found : named_reader by ≡ who) where
-  pub named : (r : Reader) → by ≡ Known r → who ≡ some r
-  named r known = sym found ∙ ap named_reader known
+-- a result tells what it was made of
+pub named : (who : Option Reader) (e : UnknownReader) (r : Reader) → Ok r ≡ ok_or who e → who ≡ Some r
+named (Some x) e r same = grind arith
+named None e r same = grind arith
 
-  pub unnamed : by ≡ Unknown → who ≡ none
-  unnamed unknown = sym found ∙ ap named_reader unknown
+pub unnamed : (who : Option Reader) (e x : UnknownReader) → Err x ≡ ok_or who e → who ≡ None
+unnamed (Some r) e x same = grind arith
+unnamed None e x same = grind arith

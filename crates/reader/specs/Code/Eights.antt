@@ -1,4 +1,4 @@
--- Bytes of a buffer as one number (src/search.rt). Assumes nothing.
+-- Bytes of a buffer as one number, as which the compare of eight of them is compiled (src/search.rt). Assumes nothing.
 use Rattle.std.specs.Prelude.{◌≡◌, ℕ, ◌+◌, ◌*◌, ◌^◌, ◌<◌, List, [], ◌∷◌, length, take, drop}
 
 -- digits of a base as one number, the first lowest

@@ -1,23 +1,18 @@
 -- What the code's own look at the cursor finds, as a peek's outcome (src/skip.rt, `look`). Assumes nothing.
-use Rattle.std.specs.Prelude.{ℕ, ◌<◌, ◌≤◌, List, length}
-use Rattle.std.proofs.Math.Option.{some, none}
+use Rattle.std.specs.Prelude.{ℕ, ◌<◌, ◌≤◌, List, length, None, Result, Ok, Err, IfSome}
 use Rattle.reader.specs.declared.state.State.{State}
-use Rattle.reader.specs.declared.skip.Looked.{Looked}
-use Rattle.reader.specs.declared.skip.Looked.TheVariants as looked
+use Rattle.reader.specs.declared.state.Refusal.{Refusal}
+use Rattle.reader.specs.declared.skip.Sight.{Sight}
 use Rattle.reader.specs.State.{moved_to, count_sum}
 use Rattle.reader.specs.Answer.{Outcome, number_of}
 
--- what a look saw: a byte or the end, with the place that the cursor moves to and how many separators it passes; as the outcome
--- of a peek from a state
-abbrev pub look_outcome : State → Looked → Outcome
-look_outcome st (looked.Byte b place passed) =
-    record { refusal = 0; byte = some b; taken = 0; passed = passed; state = moved_to st place }
-look_outcome st (looked.End place passed) =
-    record { refusal = 0; byte = none; taken = 0; passed = passed; state = moved_to st place }
-look_outcome st (looked.Refused e) = record { refusal = number_of e; byte = none; taken = 0; passed = 0; state = st }
+-- what a look saw, as the outcome of a peek from a state
+abbrev pub look_outcome : State → Result Sight Refusal → Outcome
+look_outcome st (Ok seen) =
+    record { refusal = 0; byte = seen.byte; taken = 0; passed = seen.passed; state = moved_to st seen.place }
+look_outcome st (Err e) = record { refusal = number_of e; byte = None; taken = 0; passed = 0; state = st }
 
 -- a byte that was seen lies in the buffer, and the counts are within its place
-abbrev pub LookFits : List ℕ → State → Looked → Type 0
-LookFits s st (looked.Byte b place passed) = (place < length s) × (count_sum st ≤ place)
-LookFits s st (looked.End place passed) = Unit {0}
-LookFits s st (looked.Refused e) = Unit {0}
+abbrev pub LookFits : List ℕ → State → Result Sight Refusal → Type 0
+LookFits s st (Ok seen) = IfSome seen.byte (λ _. (seen.place < length s) × (count_sum st ≤ seen.place))
+LookFits s st (Err e) = Unit {0}

@@ -1,5 +1,5 @@
 -- How the rule table is laid out as data: a word for each cell, a bit of it for each two neighbours. Assumes nothing.
-use Rattle.std.specs.Prelude.{◌≡◌, ℕ, ◌+◌, ◌*◌, Bool, true, false, cond, not}
+use Rattle.std.specs.Prelude.{◌≡◌, ℕ, ◌+◌, ◌*◌, Bool, false, cond, not}
 use Rattle.word.specs.Bits.{bit}
 use Rattle.reader.specs.declared.rule.Flags.{Flags}
 use Rattle.reader.specs.declared.rule.Neighbour.{Neighbour}
@@ -20,7 +20,6 @@ abbrev pub IsEntry : ℕ → ℕ → Type 0
 IsEntry cell word =
     (f : Flags) (is_first : Bool) (p n : Neighbour) → cell ≡ cell_of f is_first → bit word (8 * code_of p + code_of n) ≡ rule_of f is_first p n
 
--- the rule of a reader that has counted, which does not ask for the neighbour before
+-- The rule of a reader that has counted, which does not ask for the neighbour before. A word without a bit never holds.
 pub record IsLater (f : Flags) (l : Later) : Type 0 where
-  pub holds : (p n : Neighbour) → bit l.word (code_of n) ≡ rule_of f false p n
-  pub silent : l.never ≡ true → (p n : Neighbour) → rule_of f false p n ≡ false
+  pub holds : (p n : Neighbour) → bit l.0 (code_of n) ≡ rule_of f false p n

@@ -1,7 +1,6 @@
 -- Takes to the end on plain numbers (src/skip.rt, `take_run`), and the outcome that they stand for. That it is the outcome of the
 -- takes is shown in proofs/skip/TakeLoop.antt. Assumes nothing.
-use Rattle.std.specs.Prelude.{ℕ, zero, suc, ◌+◌, ◌-◌, Bool, cond, ◌&&◌, List, length, ◌==◌}
-use Rattle.std.proofs.Math.Option.{Option, some, none}
+use Rattle.std.specs.Prelude.{ℕ, zero, suc, ◌+◌, ◌-◌, Bool, cond, ◌&&◌, List, length, ◌==◌, Option, Some, None}
 use Rattle.reader.specs.declared.state.Reader.{Reader}
 use Rattle.reader.specs.declared.state.Reader.TheVariants.{Integer, Fraction, Exponent, Special}
 use Rattle.reader.specs.declared.state.State.{State}
@@ -27,7 +26,7 @@ abbrev pub sums_outcome : State → Reader → TakeSums → Outcome
 sums_outcome st r run =
     record {
       refusal = 0;
-      byte = none;
+      byte = None;
       taken = run.at - st.cursor - run.passed;
       passed = run.passed;
       state = with_count (moved_to st run.at) r run.count;
@@ -43,8 +42,8 @@ count_behind m counts b count = cond (counts && m.digit b) (count + 1) count
 
 -- what a byte leads to, or the end
 abbrev pub from_byte : Option ℕ → (ℕ → TakeSums) → TakeSums → TakeSums
-from_byte none onward end = end
-from_byte (some b) onward end = onward b
+from_byte None onward end = end
+from_byte (Some b) onward end = onward b
 
 -- where a reader with this count lands at a place
 abbrev pub lands_at : Reading → List ℕ → ℕ → ℕ → ℕ

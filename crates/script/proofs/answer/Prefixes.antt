@@ -1,17 +1,18 @@
 -- What a whole record says, and the bytes behind it print, does not depend on what follows: for the loop over records. Assumes nothing.
-use mathlib.Core.Path.{◌≡◌, refl, ◌∙◌, ap}
+use mathlib.Core.Path.{◌≡◌, refl}
 use mathlib.Core.Bool.{Bool, true, false}
 use mathlib.Core.List.{List, [], ◌∷◌, ◌++◌, append-nil}
 use Prim.Native.Nat.{ℕ, zero, suc, ◌+◌, ◌-◌, ◌≤◌, ◌<◌, min}
 use native.Mathlib.Omega.{arith}
-use native.Mathlib.Numerals.{add-one}
 use borrow.Author.Tests.{ltb-true, ltb-false, le-ltb}
+use Rattle.std.specs.Prelude.{Result, Ok, Err}
 use lib.Dec.{ltb}
-use lib.ListN.{length, take, drop, get_or, length-append, length-drop}
-use lib.Seq.{take_all, take-append-le, drop-append-le, drop-cons, drop-drop, drop-length, drop-nil}
+use lib.ListN.{length, take, drop, length-append, length-drop}
+use lib.Seq.{take_all, take-append-le, drop-append-le, drop-length, drop-nil}
 use Rattle.script.specs.declared.record.Kind.{Kind}
 use Rattle.script.specs.declared.record.Kind.TheVariants as kind
-use Rattle.script.specs.Record.{kind_of, body_length, number_at, whole_record, record_at}
+use Rattle.script.specs.declared.refusal.Refusal.{Refusal}
+use Rattle.script.specs.Record.{kind_of, body_length, size_behind, number_at, whole_record, record_behind, record_at}
 use Rattle.script.specs.Run.{Run}
 use Rattle.script.specs.Script.{response_at, output_from}
 
@@ -35,22 +36,25 @@ whole_append kind.Read body rest whole =
 whole_append kind.ZeroSkip body rest whole = rw (number_append body rest 0 1 (omega (arith, whole)))
 whole_append kind.Block body rest whole =
     rw (number_append body rest 0 1 (omega (arith, whole)), number_append body rest 1 4 (omega (arith, whole)))
-whole_append kind.Unknown body rest whole = refl
 
-record_append : (n : ℕ) (body rest : List ℕ) → body_length (kind_of n) ≤ length body → record_at n (body ++ rest) ≡ record_at n body
+behind_append : (k : Result Kind Refusal) (body rest : List ℕ) → size_behind k ≤ length body → record_behind k (body ++ rest) ≡ record_behind k body
+behind_append (Err refused) body rest whole = refl
+behind_append (Ok k) body rest whole =
+    let longer : body_length k ≤ length (body ++ rest) = simp length-append (omega (arith, whole)) in
+    rw (le-ltb (length (body ++ rest)) (body_length k) longer, le-ltb (length body) (body_length k) whole, whole_append k body rest whole)
+
+record_append : (n : ℕ) (body rest : List ℕ) → size_behind (kind_of n) ≤ length body → record_at n (body ++ rest) ≡ record_at n body
 unfolding record_at
-record_append n body rest whole =
-    let longer : body_length (kind_of n) ≤ length (body ++ rest) = simp length-append (omega (arith, whole)) in
-    rw (le-ltb (length (body ++ rest)) (body_length (kind_of n)) longer, le-ltb (length body) (body_length (kind_of n)) whole, whole_append (kind_of n) body rest whole)
+record_append n body rest whole = behind_append (kind_of n) body rest whole
 
 -- the same of a record that is cut short, where nothing follows
-pub response_append : (run : Run) (n : ℕ) (body rest : List ℕ) → (length body < body_length (kind_of n) → rest ≡ [])
+pub response_append : (run : Run) (n : ℕ) (body rest : List ℕ) → (length body < size_behind (kind_of n) → rest ≡ [])
     → response_at run n (body ++ rest) ≡ response_at run n body
 unfolding response_at
-response_append run n body rest ends = go (ltb (length body) (body_length (kind_of n))) refl where
-  go : (b : Bool) → ltb (length body) (body_length (kind_of n)) ≡ b → response_at run n (body ++ rest) ≡ response_at run n body
+response_append run n body rest ends = go (ltb (length body) (size_behind (kind_of n))) refl where
+  go : (b : Bool) → ltb (length body) (size_behind (kind_of n)) ≡ b → response_at run n (body ++ rest) ≡ response_at run n body
   go true e = rw (ends (ltb-true _ _ e), append-nil)
-  go false e = rw (record_append n body rest (omega (arith, ltb-false (length body) (body_length (kind_of n)) e)))
+  go false e = rw (record_append n body rest (omega (arith, ltb-false (length body) (size_behind (kind_of n)) e)))
 
 -- the bytes of a body are passed over, as many as there are
 behind_body : (body rest : List ℕ) (size : ℕ) (run : Run) → (length body < size → rest ≡ [])
@@ -76,24 +80,9 @@ drop_least l k = go (ltb (length l) k) refl where
       let whole : min (length l) k ≡ k = omega (arith, ltb-false (length l) k e) in
       rw whole
 
--- a record and what follows it
-record_turn : (n : ℕ) (body rest : List ℕ) (run : Run) → (length body < body_length (kind_of n) → rest ≡ [])
+-- one record, and what follows it
+pub turn : (n : ℕ) (body rest : List ℕ) (run : Run) → (length body < size_behind (kind_of n) → rest ≡ [])
     → output_from (n ∷ (body ++ rest)) 0 run
-    ≡ (response_at run n body).line ++ output_from (drop (min (length body) (body_length (kind_of n))) body ++ rest) 0 (response_at run n body).run
-record_turn n body rest run ends =
-    rw (response_append run n body rest ends, behind_body body rest (body_length (kind_of n)) (response_at run n body).run ends, drop_least body (body_length (kind_of n)))
-
--- One record of an input whose first `used` bytes are answered.
-module _ (input : List ℕ) (used : ℕ) (inside : used < length input) (run : Run) where
-  pub turn : (rest : List ℕ) → (length (drop (used + 1) input) < body_length (kind_of (get_or input used 0)) → rest ≡ [])
-      → output_from (drop used input ++ rest) 0 run
-      ≡ (response_at run (get_or input used 0) (drop (used + 1) input)).line
-      ++ output_from (drop (used + 1 + min (length (drop (used + 1) input)) (body_length (kind_of (get_or input used 0)))) input ++ rest) 0
-      (response_at run (get_or input used 0) (drop (used + 1) input)).run
-  turn rest ends =
-      let n = get_or input used 0 in
-      let body = drop (used + 1) input in
-      let cut : drop used input ≡ get_or input used 0 ∷ drop (used + 1) input = rw (add-one used) (drop-cons input used 0 inside) in
-      ap (λ (l : List ℕ). output_from (l ++ rest) 0 run) cut
-      ∙ record_turn n body rest run ends
-      ∙ ap (λ (l : List ℕ). (response_at run n body).line ++ output_from (l ++ rest) 0 (response_at run n body).run) (drop-drop (min (length body) (body_length (kind_of n))) (used + 1) input)
+    ≡ (response_at run n body).line ++ output_from (drop (min (length body) (size_behind (kind_of n))) body ++ rest) 0 (response_at run n body).run
+turn n body rest run ends =
+    rw (response_append run n body rest ends, behind_body body rest (size_behind (kind_of n)) (response_at run n body).run ends, drop_least body (size_behind (kind_of n)))

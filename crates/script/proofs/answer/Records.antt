@@ -8,67 +8,68 @@ use native.Mathlib.Omega.{arith}
 use native.Mathlib.Numerals.{add-one}
 use borrow.Author.Tests.{leb-true, le-leb, ltb-true, ltb-false}
 use lib.Dec.{ltb, leb}
+use Rattle.std.specs.Prelude.{Result}
 use lib.ListN.{length, take, drop, get_or, length-drop}
-use lib.Seq.{drop-length, drop-cons}
+use lib.Seq.{drop-length, drop-cons, drop-drop}
 use Rattle.script.specs.declared.record.Kind.{Kind}
 use Rattle.script.specs.declared.record.Record.{Record}
 use Rattle.script.specs.declared.run.Stage.{Stage}
 use Rattle.script.specs.declared.run.Stage.TheVariants as stage
 use Rattle.script.specs.declared.run.Response.{Response as Response'}
-use Rattle.script.specs.Record.{kind_of, body_length, record_behind, record_at}
+use Rattle.script.specs.declared.refusal.Refusal.{Refusal}
+use Rattle.script.specs.Record.{kind_of, size_behind, record_behind, record_at}
 use Rattle.script.specs.declared.answer.Progress.{Progress}
 use Rattle.script.specs.Line.{longest_line}
-use Rattle.script.specs.Run.{most_text, Run, gathering, stopped, run_in, is_stopped, respond, Responds}
+use Rattle.script.specs.Run.{Run, gathering, stopped, run_in, is_stopped, respond, Responds}
 use Rattle.script.specs.Script.{response_at, output_from, output_of, is_due, next_is_due, GoesAsFar, Answers}
 use Rattle.script.proofs.line.Writes.{wrote_inside}
-use Rattle.script.proofs.answer.Prefixes.{to_the_end, drop_all, turn}
+use Rattle.script.proofs.answer.Prefixes.{turn}
 
 pub false_no : false ≡ true → ⊥
 false_no e = let no : ◌≡◌ {A = ℕ} 0 1 = cc in omega arith
 
--- what holds whenever the loop's test is reached
-pub record Answering (text₀ : List ℕ) (begun : Stage) (input : List ℕ) (ended : Bool) (out₀ text out : List ℕ) (stage : Stage) (used end : ℕ)
+-- What holds whenever the loop's test is reached: of the input, `left` is still to be answered.
+pub record Answering (text₀ : List ℕ) (begun : Stage) (input : List ℕ) (ended : Bool) (out₀ text out : List ℕ) (stage : Stage) (left : List ℕ) (end : ℕ)
     : Type 0 where
-  pub kept : length text ≡ most_text
   pub size : length out ≡ length out₀
-  pub answers : Answers text₀ begun input ended text out (record { stage = stage; used = used; end = end })
+  pub read : length left ≤ length input
+  pub place : drop (length input - length left) input ≡ left
+  pub written : end ≤ length out
+  pub prints : (rest : List ℕ) → (ended ≡ true → rest ≡ [])
+      → output_from (input ++ rest) 0 (run_in text₀ begun) ≡ take end out ++ output_from (left ++ rest) 0 (run_in text stage)
 
-pub answering_starts : (text : List ℕ) (begun : Stage) (input : List ℕ) (ended : Bool) (out : List ℕ) → length text ≡ most_text
-    → Answering text begun input ended out text out begun 0 0
-answering_starts text begun input ended out kept =
-    record { kept = kept; size = refl; answers = record { read = omega arith; written = omega arith; prints = λ rest ends. refl } }
+pub answering_starts : (text : List ℕ) (begun : Stage) (input : List ℕ) (ended : Bool) (out : List ℕ) → Answering text begun input ended out text out begun input 0
+answering_starts text begun input ended out =
+    let none : length input - length input ≡ 0 = omega arith in
+    record { size = refl; read = omega arith; place = rw none; written = omega arith; prints = λ rest ends. refl }
 
-module _ (text₀ : List ℕ) (begun : Stage) (input : List ℕ) (ended : Bool) (out₀ text out : List ℕ) (stage : Stage) (used end : ℕ)
-    (here : Answering text₀ begun input ended out₀ text out stage used end) (inside : used < length input)
-    (due : ended ≡ false → body_length (kind_of (get_or input used 0)) ≤ length (drop (used + 1) input))
+module _ {text₀ : List ℕ} {begun : Stage} {input : List ℕ} {ended : Bool} {out₀ text out : List ℕ} {stage : Stage} {end : ℕ} (n : ℕ) (body : List ℕ)
+    (here : Answering text₀ begun input ended out₀ text out stage (n ∷ body) end)
+    (due : ended ≡ false → size_behind (kind_of n) ≤ length body)
   where
     -- a record that is cut short has nothing behind it
-    ends_here : (rest : List ℕ) → (ended ≡ true → rest ≡ []) → length (drop (used + 1) input) < body_length (kind_of (get_or input used 0)) → rest ≡ []
+    ends_here : (rest : List ℕ) → (ended ≡ true → rest ≡ []) → length body < size_behind (kind_of n) → rest ≡ []
     ends_here rest ends less = go ended refl where
       go : (b : Bool) → ended ≡ b → rest ≡ []
       go true e = ends e
       go false e = absurd (omega (arith, due e, less))
 
-    pub answering_goes_on : {text' out' : List ℕ} {answer : Response'} {k : ℕ}
-        → k ≡ min (length (drop (used + 1) input)) (body_length (kind_of (get_or input used 0)))
-        → length text' ≡ most_text
-        → Responds (response_at (run_in text stage) (get_or input used 0) (take (length input - (used + 1)) (drop (used + 1) input))) text' out end out' answer
-        → Answering text₀ begun input ended out₀ text' out' answer.stage (used + 1 + k) answer.end
-    answering_goes_on {text' = text'} {out' = out'} {answer = answer} {k = k} ek kept r =
-        let r' : Responds (response_at (run_in text stage) (get_or input used 0) (drop (used + 1) input)) text' out end out' answer = rw (to_the_end input (used + 1)) at r in
-        let fits : k ≤ length input - (used + 1) = omega (arith, ek, length-drop (used + 1) input) in
+    pub answering_goes_on : {text' out' : List ℕ} {answer : Response'} {k : ℕ} → k ≡ min (length body) (size_behind (kind_of n))
+        → Responds (response_at (run_in text stage) n body) text' out end out' answer
+        → Answering text₀ begun input ended out₀ text' out' answer.stage (drop k body) answer.end
+    answering_goes_on {k = k} ek r =
+        let fewer : length (drop k body) ≡ length body - k = length-drop k body in
+        let fits : k ≤ length body = omega (arith, ek) in
+        let whole : length input - length (drop k body) ≡ (length input - suc (length body)) + suc k = omega (arith, fewer, fits, here.read) in
         record {
-          kept = kept;
           size = r.wrote.size ∙ here.size;
-          answers =
-              record {
-                read = omega (arith, fits, inside);
-                written = wrote_inside here.answers.written r.wrote;
-                prints = λ rest ends.
-                    here.answers.prints rest ends
-                    ∙ ap (λ (l : List ℕ). take end out ++ l) (turn input used inside (run_in text stage) rest (ends_here rest ends))
-                    ∙ rw (ek, r'.wrote.contents, r'.goes_on, append_assoc);
-              };
+          read = omega (arith, fewer, here.read);
+          place = rw whole (sym (drop-drop (suc k) (length input - suc (length body)) input) ∙ ap (drop (suc k)) here.place);
+          written = wrote_inside here.written r.wrote;
+          prints = λ rest ends.
+              here.prints rest ends
+              ∙ ap (λ (l : List ℕ). take end out ++ l) (turn n body rest (run_in text stage) (ends_here rest ends))
+              ∙ rw (ek, r.wrote.contents, r.goes_on, append_assoc);
         }
 
 -- what a record that is due has
@@ -94,36 +95,29 @@ module _ (stage : Stage) (room : ℕ) (ended : Bool) (size there : ℕ) (is : Bo
       go false false false e f g = let no : false ≡ true = rw (e, f) at due in absurd (false_no no)
       go false true false e f g = let no : false ≡ true = rw (e, f, more, g) at due in absurd (false_no no)
 
--- where the loop ends with the input nothing is left, and where it ends before, the next record is not due
-pub nothing_due : (input : List ℕ) (used : ℕ) (stage : Stage) (room : ℕ) (ended : Bool) → length input ≤ used → next_is_due stage room ended (drop used input) ≡ false
-nothing_due input used stage room ended past = rw (drop_all input used past)
+-- where the loop ends with the input nothing is due, and where it ends before, the next record is not
+pub nothing_due : (left : List ℕ) (stage : Stage) (room : ℕ) (ended : Bool) → length left ≡ 0 → next_is_due stage room ended left ≡ false
+nothing_due [] stage room ended none = refl
+nothing_due (n ∷ body) stage room ended none = absurd (omega (arith, none))
 
-pub not_due : (input : List ℕ) (used : ℕ) (stage : Stage) (room : ℕ) (ended : Bool) (size there : ℕ) (is : Bool) → used < length input
-    → is ≡ is_due stage room ended size there → is ≡ false → size ≡ body_length (kind_of (get_or input used 0))
-    → there ≡ length (take (length input - (used + 1)) (drop (used + 1) input))
-    → next_is_due stage room ended (drop used input) ≡ false
-not_due input used stage room ended size there is inside known left e f =
-    let here : is_due stage room ended (body_length (kind_of (get_or input used 0))) (length (drop (used + 1) input)) ≡ false = rw (e, f, to_the_end input (used + 1)) at (sym known ∙ left) in
-    rw (drop-cons input used 0 inside) (rw (add-one used) at here)
+pub not_due : (n : ℕ) (body : List ℕ) (stage : Stage) (room : ℕ) (ended : Bool) (size there : ℕ) (is : Bool)
+    → is ≡ is_due stage room ended size there → is ≡ false → size ≡ size_behind (kind_of n) → there ≡ length body
+    → next_is_due stage room ended (n ∷ body) ≡ false
+not_due n body stage room ended size there is known left e f = rw (e, f) at (sym known ∙ left)
 
 -- the response to the record that the code asks for is the definition's
-pub responds_at : (run : Run) {text before after : List ℕ} {at : ℕ} {answer : Response'} (rest : List ℕ) (n : ℕ) (k : Kind) (asked : Record)
-    → k ≡ kind_of n → asked ≡ record_behind k rest → Responds (respond run asked) text before at after answer
+pub responds_at : (run : Run) {text before after : List ℕ} {at : ℕ} {answer : Response'} (rest : List ℕ) (n : ℕ) (k : Result Kind Refusal)
+    (asked : Result Record Refusal) → k ≡ kind_of n → asked ≡ record_behind k rest → Responds (respond run asked) text before at after answer
     → Responds (response_at run n rest) text before at after answer
 unfolding response_at record_at
 responds_at run rest n k asked kind known r = let same : asked ≡ record_behind (kind_of n) rest = rw kind at known in rw same at r
-
--- how many bytes of its body are there
-pub least_as : (input : List ℕ) (from least size size' : ℕ) → size ≡ size'
-    → least ≡ min (length (take (length input - from) (drop from input))) size → least ≡ min (length (drop from input)) size'
-least_as input from least size size' same known = rw (to_the_end input from, same) at known
 
 -- nothing answers what stands behind a stop
 pub stopped_prints_nothing : (input : List ℕ) (skipped : ℕ) → output_from input skipped stopped ≡ []
 unfolding response_at
 stopped_prints_nothing [] skipped = refl
 stopped_prints_nothing (b ∷ rest) (suc skipped) = stopped_prints_nothing rest skipped
-stopped_prints_nothing (b ∷ rest) zero = stopped_prints_nothing rest (body_length (kind_of b))
+stopped_prints_nothing (b ∷ rest) zero = stopped_prints_nothing rest (size_behind (kind_of b))
 
 pub is_stopped_run : (text : List ℕ) (at : Stage) → is_stopped at ≡ true → run_in text at ≡ stopped
 is_stopped_run text (stage.Gathering n) e = absurd (false_no e)
@@ -138,7 +132,7 @@ stops_else true w e = refl
 stops_else false w e = absurd (false_no (sym e))
 
 due_at : (stage : Stage) (room : ℕ) (ended : Bool) (input : List ℕ) (used : ℕ) → used < length input → next_is_due stage room ended (drop used input) ≡ false
-    → is_due stage room ended (body_length (kind_of (get_or input used 0))) (length (drop (used + 1) input)) ≡ false
+    → is_due stage room ended (size_behind (kind_of (get_or input used 0))) (length (drop (used + 1) input)) ≡ false
 due_at stage room ended input used inside far = rw (add-one used) (rw (drop-cons input used 0 inside) at far)
 
 -- An input that has ended and was answered with room to spare: what is written is what the definition prints.
@@ -157,7 +151,7 @@ answered_whole text begun input text' out p fresh here far room = go (ltb p.used
   go false e = nothing_left (none_after input p.used (run_in text' p.stage) (omega (arith, here.read, ltb-false p.used (length input) e)))
   go true e =
       let enough : leb longest_line (length out - p.end) ≡ true = le-leb longest_line (length out - p.end) (omega (arith, room)) in
-      let size = body_length (kind_of (get_or input p.used 0)) in
+      let size = size_behind (kind_of (get_or input p.used 0)) in
       let there = length (drop (p.used + 1) input) in
       let due : is_due p.stage (length out - p.end) true size there ≡ false = due_at p.stage (length out - p.end) true input p.used (ltb-true p.used (length input) e) far in
       let stop : is_stopped p.stage ≡ true = stops_else (is_stopped p.stage) (leb size there) (rw enough at due) in

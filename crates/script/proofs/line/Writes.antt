@@ -1,11 +1,11 @@
--- Writing bytes behind others (`Wrote`), one after the other and in the loop of `put_all`: for every function that writes. Assumes nothing.
+-- Writing bytes behind others (`Wrote`), one after the other: for every function that writes. Assumes nothing.
 use mathlib.Core.Path.{◌≡◌, refl, ◌∙◌, ap}
 use mathlib.Core.List.{List, [], ◌∷◌, ◌++◌, append_assoc, append-nil}
 use Prim.Native.Nat.{ℕ, ◌+◌, ◌≤◌, ◌<◌}
 use native.Mathlib.Omega.{arith}
 use native.Mathlib.Numerals.{add-one}
-use lib.ListN.{length, take, set, get_or, length-append, length-set, length-take}
-use lib.Seq.{take-suc, take-suc-set, take_all}
+use lib.ListN.{length, take, set, length-append, length-set, length-take}
+use lib.Seq.{take-suc-set}
 use Rattle.script.specs.Line.{Wrote}
 
 pub wrote_byte : (out : List ℕ) (at b : ℕ) → at < length out → Wrote out at (b ∷ []) (set out at b) (at + 1)
@@ -33,27 +33,3 @@ pub wrote_inside : {before after bytes : List ℕ} {at end : ℕ} → at ≤ len
 wrote_inside {before = before} {after = after} {bytes = bytes} {at = at} {end = end} inside w =
     let sizes : length (take end after) ≡ length (take at before ++ bytes) = ap length w.contents in
     omega (arith, simp (length-take, length-append) at sizes, w.place, inside)
-
--- A loop that writes bytes one by one: what it has written after `i` of them.
-pub record Copying (before : List ℕ) (at : ℕ) (bytes : List ℕ) (held : List ℕ) (i : ℕ) : Type 0 where
-  pub within : i ≤ length bytes
-  pub wrote : Wrote before at (take i bytes) held (at + i)
-
-pub copy_starts : (out : List ℕ) (at : ℕ) (bytes : List ℕ) → Copying out at bytes out 0
-copy_starts out at bytes = record { within = omega arith; wrote = wrote_as (wrote_nothing out at) refl (omega arith) }
-
-pub copy_goes_on : (before : List ℕ) (at : ℕ) (bytes held : List ℕ) (i : ℕ) → at + length bytes ≤ length before → i < length bytes
-    → Copying before at bytes held i → Copying before at bytes (set held (at + i) (get_or bytes i 0)) (i + 1)
-copy_goes_on before at bytes held i room more here =
-    record {
-      within = omega (arith, more);
-      wrote =
-          wrote_as
-          (wrote_then here.wrote (wrote_byte held (at + i) (get_or bytes i 0) (omega (arith, here.wrote.size))))
-          (rw (add-one i, take-suc bytes i 0 more))
-          (omega arith);
-    }
-
-pub copy_ends : (before : List ℕ) (at : ℕ) (bytes held : List ℕ) (i : ℕ) → length bytes ≤ i → Copying before at bytes held i
-    → Wrote before at bytes held (at + i)
-copy_ends before at bytes held i past here = rw (take_all i bytes past) at here.wrote

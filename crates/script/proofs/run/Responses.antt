@@ -2,13 +2,12 @@
 use mathlib.Core.Path.{◌≡◌, refl}
 use mathlib.Core.Bool.{Bool, true, false}
 use mathlib.Core.List.{List}
-use Prim.Native.Nat.{ℕ, ◌+◌, ◌-◌, ◌≤◌, ◌<◌, min}
+use Prim.Native.Nat.{ℕ, ◌-◌, min}
 use native.Mathlib.Omega.{arith}
-use native.Mathlib.Numerals.{add-one}
-use borrow.Author.Tests.{lt-ltb, le-ltb, ltb-true, ltb-false}
+use borrow.Author.Tests.{ltb-true, ltb-false}
 use lib.Dec.{ltb}
-use lib.ListN.{length, take, set, length-take}
-use lib.Seq.{take-suc-set, take-length, take_all}
+use lib.ListN.{length, take}
+use lib.Seq.{take-length, take_all}
 use Rattle.reader.specs.declared.state.Reader.{Reader}
 use Rattle.reader.specs.declared.state.State.{State}
 use Rattle.reader.specs.Reading.{reading_on}
@@ -18,30 +17,21 @@ use Rattle.script.specs.declared.run.Stage.{Stage}
 use Rattle.script.specs.declared.run.Stage.TheVariants as stage
 use Rattle.script.specs.declared.run.Response.{Response as Response'}
 use Rattle.script.specs.declared.record.Call.{Call}
-use Rattle.script.specs.declared.refusal.Refusal.TheVariants as refusal
+use Rattle.script.specs.declared.refusal.Refusal.{Refusal}
 use Rattle.script.specs.Line.{Wrote}
 use Rattle.script.specs.Reply.{call_by, reply_of, reply_line}
-use Rattle.script.specs.Run.{most_text, Response, Responds, run_in, stops, add_text, call_response}
-use Rattle.script.proofs.line.Writes.{wrote_as, wrote_nothing}
+use Rattle.script.specs.Run.{Response, Responds, run_in, stops, call_response}
+use Rattle.script.proofs.line.Writes.{wrote_as}
 
 pub responds : {response : Response} {buffer before after : List ℕ} {at end : ℕ} {answer : Response'} {stage : Stage}
     → answer ≡ record { stage = stage; end = end } → Wrote before at response.line after end → run_in buffer stage ≡ response.run
     → Responds response buffer before at after answer
 responds e w g = rw e (record { wrote = w; goes_on = g })
 
-module _ (text : List ℕ) (n b : ℕ) (whole : length text ≡ most_text) where
-  pub text_added : (out : List ℕ) (at : ℕ) (answer : Response') → n < most_text → answer ≡ record { stage = stage.Gathering (n + 1); end = at }
-      → Responds (add_text (take n text) b) (set text n b) out at out answer
-  text_added out at answer room e =
-      let fits : length (take n text) < most_text = simp length-take (omega (arith, room, whole)) in
-      rw (lt-ltb (length (take n text)) most_text fits)
-      (responds {stage = stage.Gathering (n + 1)} e (wrote_nothing out at) (rw (add-one n, take-suc-set text n b (omega (arith, room, whole)))))
-
-  pub text_full : {buffer out out' : List ℕ} {at : ℕ} {answer : Response'} → most_text ≤ n
-      → Responds (stops refusal.TextFull) buffer out at out' answer → Responds (add_text (take n text) b) buffer out at out' answer
-  text_full noroom r =
-      let full : most_text ≤ length (take n text) = simp length-take (omega (arith, noroom, whole)) in
-      rw (le-ltb (length (take n text)) most_text full) r
+-- code that refuses has written nothing, and the response is that the run stops
+pub stopped_by : {response : Response} (refused : Refusal) {buffer before middle after : List ℕ} {at : ℕ} {answer : Response'}
+    → (middle ≡ before) × (response ≡ stops refused) → Responds (stops refused) buffer middle at after answer → Responds response buffer before at after answer
+stopped_by refused e r = rw (e.1, ← e.0) r
 
 take_least : (l : List ℕ) (n : ℕ) → take (min n (length l)) l ≡ take n l
 take_least l n = go (ltb n (length l)) refl where

@@ -1,4 +1,4 @@
--- Packed answers: what a refused call begins with, for the functions `first_of_..`, and the bytes of a part one by one, for
+-- Packed answers: what a refused call begins with, for each kind of answer, and the bytes of a part one by one, for
 -- `pack_part`. Assumes nothing.
 use Prim.Native.Nat.{ℕ, ◌+◌, ◌≤◌, ◌<◌}
 use mathlib.Core.Path.{◌≡◌, refl}
@@ -9,16 +9,24 @@ use lib.Seq.{drop-cons}
 use Rattle.reader.specs.declared.state.Refusal.{Refusal}
 use Rattle.reader.specs.declared.state.Refusal.TheVariants.{CursorPastEnd, CountsExceedCursor, SpecialReader, ConsecutiveInteger, ConsecutiveFraction, ConsecutiveExponent}
 use Rattle.reader.specs.Answer.{number_of}
+use Rattle.cells.specs.declared.digit_run.RunError.{RunError}
+use Rattle.cells.specs.declared.digit_run.RunError.TheVariants.{NoDigit, AboveWidth, Refused}
+use Rattle.cells.specs.DigitRun.{error_number}
 use Rattle.vectors.specs.Packed.{with_byte, low_byte_behind}
 use Rattle.vectors.specs.Call.{or_refused, bytes_behind}
 
-pub refused-first : (e : Refusal) (first : ℕ) → low_byte_behind 2 (number_of e) ≡ or_refused (number_of e) first
-refused-first CursorPastEnd first = refl
-refused-first CountsExceedCursor first = refl
-refused-first SpecialReader first = refl
-refused-first ConsecutiveInteger first = refl
-refused-first ConsecutiveFraction first = refl
-refused-first ConsecutiveExponent first = refl
+pub refused_first : (e : Refusal) (first : ℕ) → low_byte_behind 2 (number_of e) ≡ or_refused (number_of e) first
+refused_first CursorPastEnd first = refl
+refused_first CountsExceedCursor first = refl
+refused_first SpecialReader first = refl
+refused_first ConsecutiveInteger first = refl
+refused_first ConsecutiveFraction first = refl
+refused_first ConsecutiveExponent first = refl
+
+pub refused_run_first : (e : RunError) (first : ℕ) → low_byte_behind 2 (error_number e) ≡ or_refused (error_number e) first
+refused_run_first NoDigit first = refl
+refused_run_first AboveWidth first = refl
+refused_run_first (Refused e) first = refused_first e first
 
 module _ (part : List ℕ) (packed i : ℕ) where
   pub one_behind : (next : ℕ) → i < length part → next ≡ with_byte packed (get_or part i 0)

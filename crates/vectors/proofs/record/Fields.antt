@@ -1,47 +1,52 @@
--- A line's fields: where one ends, for `field_end`, what one more does, for `with_field`, and all of them in order, for `parse`.
+-- A line's fields: where one ends, for `until_space`, what one more does, for `with_field`, and all of them in order, for `parse`.
 -- Assumes nothing.
-use Prim.Native.Nat.{ℕ, zero, suc, ◌+◌, ◌-◌, ◌≤◌, ◌<◌}
-use mathlib.Core.Path.{◌≡◌, refl, ◌∙◌}
-use mathlib.Core.List.{List, [], ◌∷◌}
-use native.Mathlib.Numerals.{add-one}
-use native.Mathlib.Omega.{arith}
-use lib.ListN.{length, take, drop, get_or, length-drop, drop_of_length-le}
-use lib.Seq.{drop-cons, drop-drop, take_all}
+use Rattle.std.proofs.Common.{◌≡◌, ℕ, zero, suc, ◌+◌, ◌-◌, ◌≤◌, ◌<◌, List, [], ◌∷◌, ◌==◌, length, take, drop, get_or, refl, ap, ◌∙◌, add-one, arith, drop-cons, length-drop, sym, Option, None, Some}
+use lib.ListN.{drop_of_length-le}
+use lib.Seq.{drop-drop, take_all}
+use Rattle.std.specs.Prelude.{cond, not, nat_lt}
+use Rattle.std.specs.Option.{unwrap_or}
+use Rattle.std.specs.List.{position, position_or_len}
+use Rattle.std.proofs.lemmas.List.Sums.{prefix_len-le-length}
 use borrow.Author.Tests.{eq-eqb, ne_eqb, lt-ltb, le-ltb}
-use Rattle.vectors.specs.declared.record.Number.{Number}
+use Rattle.std.proofs.lemmas.List.Recursion.{is_position_or_len}
 use Rattle.vectors.specs.declared.record.Record.{Record}
+use Rattle.vectors.specs.declared.record.Kind.{Kind}
 use Rattle.vectors.specs.Hex.{read_hex}
-use Rattle.vectors.specs.Line.{of_kind, no_record, added, with_field, until_space, with_fields, record_of}
+use Rattle.vectors.specs.Line.{kind_of, of_kind, if_kind, if_record, added, with_field, until_space, with_fields, record_of}
 
-module _ (line : List ℕ) (at : ℕ) where
-  pub at_space : at < length line → get_or line at 0 ≡ 32 → until_space (drop at line) ≡ 0
-  unfolding until_space
-  at_space inside e = rw (drop-cons line at 0 inside, eq-eqb _ _ e)
+one_more_is : (n : ℕ) → 1 + n ≡ suc n
+one_more_is n = omega arith
 
-  pub before_space : at < length line → (get_or line at 0 ≡ 32 → ⊥) → until_space (drop at line) ≡ suc (until_space (drop (at + 1) line))
-  unfolding until_space
-  before_space inside other = rw (drop-cons line at 0 inside, ne_eqb _ _ other, add-one)
+until_space_is : (l : List ℕ) → until_space l ≡ position_or_len (λ c. c == 32) l
+unfolding until_space
+until_space_is l = is_position_or_len until_space (λ c. c == 32) refl (λ c rest. rw (← one_more_is (until_space rest))) l
 
-  pub at_end : length line ≤ at → until_space (drop at line) ≡ 0
-  unfolding until_space
-  at_end end = rw (drop_of_length-le line end)
+or_end : (n end : ℕ) → n ≤ end → unwrap_or (cond (nat_lt n end) (Some n) None) end ≡ n
+or_end n end within = grind arith
+
+pub to_space : (l : List ℕ) → unwrap_or (position (λ c. c == 32) l) (length l) ≡ until_space l
+to_space l =
+    or_end (position_or_len (λ c. c == 32) l) (length l) (prefix_len-le-length (λ c. not (c == 32)) l) ∙ sym (until_space_is l)
+
+pub within_line : (l : List ℕ) → until_space l ≤ length l
+within_line l = rw (until_space_is l) (prefix_len-le-length (λ c. not (c == 32)) l)
 
 module _ (r : Record) (field : List ℕ) where
-  pub no_room : 8 ≤ r.count → no_record ≡ with_field r field
+  pub no_room : 8 ≤ r.count → None ≡ with_field r field
   unfolding with_field
   no_room full = rw (le-ltb r.count 8 full)
 
   module _ (room : r.count < 8) where
-    pub no_field : length field ≤ 0 → no_record ≡ with_field r field
+    pub no_field : length field ≤ 0 → None ≡ with_field r field
     unfolding with_field
     no_field blank = rw (lt-ltb r.count 8 room, le-ltb 0 (length field) blank)
 
     module _ (filled : 0 < length field) where
-      pub no_space : (get_or field 0 0 ≡ 32 → ⊥) → no_record ≡ with_field r field
+      pub no_space : (get_or field 0 0 ≡ 32 → ⊥) → None ≡ with_field r field
       unfolding with_field
       no_space other = rw (lt-ltb r.count 8 room, lt-ltb 0 (length field) filled, ne_eqb (get_or field 0 0) 32 other)
 
-      pub with_number : (n : Number) → get_or field 0 0 ≡ 32 → n ≡ read_hex (take (length field - 1) (drop 1 field))
+      pub with_number : (n : Option ℕ) → get_or field 0 0 ≡ 32 → n ≡ read_hex (take (length field - 1) (drop 1 field))
           → added r (length field - 1) n ≡ with_field r field
       unfolding with_field
       with_number n space is =
@@ -57,36 +62,60 @@ passed_over (suc left) r [] = refl
 passed_over (suc left) r (c ∷ rest) = passed_over left r rest
 
 -- one more field
-a_field : (r : Record) (c : ℕ) (rest : List ℕ)
-    → with_fields 0 r (c ∷ rest) ≡ with_fields (until_space rest) (with_field r (c ∷ take (until_space rest) rest)) rest
+a_field : (r : Record) (c : ℕ) (rest : List ℕ) → with_fields 0 r (c ∷ rest)
+    ≡ if_record (with_field r (c ∷ take (until_space rest) rest)) (λ after. with_fields (until_space rest) after rest)
 unfolding with_fields
 a_field r c rest = refl
 
-module _ (line : List ℕ) where
-  pub first_fields : (r : Record) → 0 < length line → r ≡ of_kind (get_or line 0 0) → with_fields 0 r (drop 1 line) ≡ record_of line
-  unfolding record_of
-  first_fields r filled is = rw is (go line filled) where
-    go : (l : List ℕ) → 0 < length l → with_fields 0 (of_kind (get_or l 0 0)) (drop 1 l) ≡ record_of l
-    go [] filled = absurd (omega arith)
-    go (kind ∷ rest) filled = refl
+all_passed : (o : Option Record) (w at : ℕ) (line : List ℕ)
+    → if_record o (λ after. with_fields w after (drop at line)) ≡ if_record o (λ after. with_fields 0 after (drop (at + w) line))
+all_passed None w at line = refl
+all_passed (Some after) w at line = passed_over w after (drop at line) ∙ ap (with_fields 0 after) (drop-drop w at line)
 
-  pub no_line : length line ≤ 0 → no_record ≡ record_of line
+module _ (line : List ℕ) where
+  pub no_line : length line ≤ 0 → None ≡ record_of line
   unfolding record_of
   no_line blank = go line blank where
-    go : (l : List ℕ) → length l ≤ 0 → no_record ≡ record_of l
+    go : (l : List ℕ) → length l ≤ 0 → None ≡ record_of l
     go [] blank = refl
-    go (kind ∷ rest) blank = absurd (omega arith)
+    go (letter ∷ rest) blank = absurd (omega arith)
 
-  pub next_field : (r after : Record) (at end : ℕ) → at < length line → end ≡ at + 1 + until_space (drop (at + 1) line)
-      → after ≡ with_field r (take (end - at) (drop at line)) → with_fields 0 r (drop at line) ≡ with_fields 0 after (drop end line)
-  next_field r after at end inside to is =
+  pub first_fields : 0 < length line → record_of line ≡ if_kind (kind_of (get_or line 0 0)) (λ kind. with_fields 0 (of_kind kind) (drop 1 line))
+  unfolding record_of
+  first_fields filled = go line filled where
+    go : (l : List ℕ) → 0 < length l → record_of l ≡ if_kind (kind_of (get_or l 0 0)) (λ kind. with_fields 0 (of_kind kind) (drop 1 l))
+    go [] filled = absurd (omega arith)
+    go (letter ∷ rest) filled = refl
+
+  abbrev goes : Option Kind → Option Record
+  goes k = if_kind k (λ kind. with_fields 0 (of_kind kind) (drop 1 line))
+
+  pub no_kind : 0 < length line → kind_of (get_or line 0 0) ≡ None → None ≡ record_of line
+  no_kind filled e = sym (first_fields filled ∙ ap goes e)
+
+  pub a_kind : (kind : Kind) (r : Record) → 0 < length line → kind_of (get_or line 0 0) ≡ Some kind → r ≡ of_kind kind
+      → with_fields 0 r (drop 1 line) ≡ record_of line
+  a_kind kind r filled e is = ap (λ r. with_fields 0 r (drop 1 line)) is ∙ sym (first_fields filled ∙ ap goes e)
+
+  to_the_end : (at : ℕ) → take (length line - at) (drop at line) ≡ drop at line
+  to_the_end at = take_all (length line - at) (drop at line) (rw (length-drop at line) (omega arith))
+
+  pub inside_line : (at w : ℕ) → at < length line → w ≤ length (take (length line - (at + 1)) (drop (at + 1) line)) → at + 1 + w ≤ length line
+  inside_line at w inside h =
+      let left : w ≤ length line - (at + 1) = rw (to_the_end (at + 1), length-drop (at + 1) line) at h in omega (arith, left, inside)
+
+  pub next_field : (r : Record) (o : Option Record) (at w : ℕ) → at < length line
+      → w ≡ until_space (take (length line - (at + 1)) (drop (at + 1) line))
+      → o ≡ with_field r (take (at + 1 + w - at) (drop at line))
+      → with_fields 0 r (drop at line) ≡ if_record o (λ after. with_fields 0 after (drop (at + 1 + w) line))
+  next_field r o at w inside to is =
       let rest = drop (at + 1) line in
-      let w = until_space rest in
       let cut : drop at line ≡ get_or line at 0 ∷ rest = rw add-one (drop-cons line at 0 inside) in
-      let size : end - at ≡ suc w = omega (arith, to) in
-      let told : after ≡ with_field r (get_or line at 0 ∷ take w rest) = is ∙ rw (size, cut) in
-      rw (cut, a_field r (get_or line at 0) rest, ← told, passed_over w after rest, drop-drop w (at + 1) line, ← to)
+      let size : at + 1 + w - at ≡ suc w = omega arith in
+      let told : o ≡ with_field r (get_or line at 0 ∷ take w rest) = is ∙ rw (size, cut) in
+      let until : w ≡ until_space rest = to ∙ ap until_space (to_the_end (at + 1)) in
+      rw (cut, a_field r (get_or line at 0) rest, ← until, ← told) (all_passed o w (at + 1) line)
 
-  pub fields_end : (r : Record) (at : ℕ) → length line ≤ at → with_fields 0 r (drop at line) ≡ r
+  pub fields_end : (r : Record) (at : ℕ) → length line ≤ at → with_fields 0 r (drop at line) ≡ Some r
   unfolding with_fields
   fields_end r at end = rw (drop_of_length-le line end)

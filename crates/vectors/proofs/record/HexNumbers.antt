@@ -1,45 +1,44 @@
 -- Numbers in hex: the value of each range of bytes, for `hex_value`, and what one more digit does to a number, for `read_number`.
 -- Assumes nothing.
-use Prim.Native.Nat.{ℕ, ◌+◌, ◌-◌, ◌*◌, ◌^◌, ◌≤◌, ◌<◌}
-use mathlib.Core.Path.{◌≡◌}
-use mathlib.Core.List.{List}
+use Rattle.std.proofs.Common.{◌≡◌, ℕ, ◌+◌, ◌-◌, ◌*◌, ◌^◌, ◌≤◌, ◌<◌, List, length, drop, get_or, add-one, arith, drop-cons, Option, None, Some}
 use native.Mathlib.Nat.{pow-suc, pow-le-pow_right}
-use native.Mathlib.Numerals.{add-one}
-use native.Mathlib.Omega.{arith}
-use lib.ListN.{length, drop, get_or, drop_of_length-le}
-use lib.Seq.{drop-cons}
+use lib.ListN.{drop_of_length-le}
 use borrow.Author.Tests.{le-leb, lt-leb, le-ltb, lt-ltb}
-use Rattle.vectors.specs.declared.record.Number.TheVariants.{Value, Nothing}
-use Rattle.vectors.specs.Hex.{hex_value, read_from, read_hex}
+use Rattle.vectors.specs.Hex.{hex_value, if_digit, read_from, read_hex}
 
 module _ (c : ℕ) where
-  pub figure : 48 ≤ c → c ≤ 57 → c - 48 ≡ hex_value c
+  pub figure : 48 ≤ c → c ≤ 57 → Some (c - 48) ≡ hex_value c
   unfolding hex_value
   figure low high = simp (le-leb 48 c low, le-leb c 57 high)
 
-  pub letter : 65 ≤ c → c ≤ 70 → c - 65 + 10 ≡ hex_value c
+  pub letter : 65 ≤ c → c ≤ 70 → Some (c - 65 + 10) ≡ hex_value c
   unfolding hex_value
   letter low high = simp (le-leb 48 c (omega arith), lt-leb c 57 (omega arith), le-leb 65 c low, le-leb c 70 high)
 
-  pub below : c < 48 → 16 ≡ hex_value c
+  pub below : c < 48 → None ≡ hex_value c
   unfolding hex_value
   below high = simp (lt-leb 48 c high, lt-leb 65 c (omega arith))
 
-  pub between : 57 < c → c < 65 → 16 ≡ hex_value c
+  pub between : 57 < c → c < 65 → None ≡ hex_value c
   unfolding hex_value
   between low high = simp (le-leb 48 c (omega arith), lt-leb c 57 low, lt-leb 65 c high)
 
-  pub above : 70 < c → 16 ≡ hex_value c
+  pub above : 70 < c → None ≡ hex_value c
   unfolding hex_value
   above low =
       simp (le-leb 48 c (omega arith), lt-leb c 57 (omega arith), le-leb 65 c (omega arith), lt-leb c 70 low)
 
+  -- a digit is below 16
+  pub small : (d : ℕ) → hex_value c ≡ Some d → d < 16
+  unfolding hex_value
+  small d is = grind arith
+
 module _ (digits : List ℕ) where
-  pub empty : length digits ≤ 0 → Nothing ≡ read_hex digits
+  pub empty : length digits ≤ 0 → None ≡ read_hex digits
   unfolding read_hex
   empty nothing = simp (le-ltb 0 (length digits) nothing)
 
-  pub long : 16 < length digits → Nothing ≡ read_hex digits
+  pub long : 16 < length digits → None ≡ read_hex digits
   unfolding read_hex
   long many = simp (lt-ltb 0 (length digits) (omega arith), lt-leb (length digits) 16 many)
 
@@ -47,18 +46,15 @@ module _ (digits : List ℕ) where
   unfolding read_hex
   read_hex_lem filled few = simp (lt-ltb 0 (length digits) filled, le-leb (length digits) 16 few)
 
-  pub read_end : (value i : ℕ) → length digits ≤ i → read_from value (drop i digits) ≡ Value value
+  pub read_end : (value i : ℕ) → length digits ≤ i → read_from value (drop i digits) ≡ Some value
   unfolding read_from
   read_end value i end = rw (drop_of_length-le digits end)
 
-  module _ (value i d : ℕ) (inside : i < length digits) (is : d ≡ hex_value (get_or digits i 0)) where
-    pub read_digit : d < 16 → read_from value (drop i digits) ≡ read_from (value * 16 + d) (drop (i + 1) digits)
-    unfolding read_from
-    read_digit small = rw (add-one, drop-cons digits i 0 inside, ← is, lt-ltb d 16 small)
-
-    pub read_other : 16 ≤ d → read_from value (drop i digits) ≡ Nothing
-    unfolding read_from
-    read_other large = rw (drop-cons digits i 0 inside, ← is, le-ltb d 16 large)
+  -- what the next byte does, by its value as a digit
+  pub read_next : (value i : ℕ) (d : Option ℕ) → i < length digits → d ≡ hex_value (get_or digits i 0)
+      → read_from value (drop i digits) ≡ if_digit d (λ d. read_from (value * 16 + d) (drop (i + 1) digits))
+  unfolding read_from
+  read_next value i d inside is = rw (add-one, drop-cons digits i 0 inside, is)
 
 module _ (value i d : ℕ) (bounded : value < 16 ^ i) (small : d < 16) where
   pub grows : value * 16 + d < 16 ^ (i + 1)

@@ -2,7 +2,7 @@
 -- letter from `a`, both modulo 256, are below the number of figures or letters exactly where the definition says so. Assumes nothing.
 use Rattle.std.proofs.Common.{◌≡◌, ℕ, ◌+◌, ◌-◌, ◌%◌, ◌<◌, ◌≤◌, min, Bool, true, false, cond, ◌&&◌, ◌||◌, eqb, ltb, leb, sym, refl, ap, ◌∙◌, arith, ltb-false, ltb-true, le-ltb, lt-ltb, eqb-true, leb-true}
 use mathlib.Core.Bool.{and-eq-true_iff}
-use mathlib.Core.Option.{some, none}
+use Rattle.std.specs.Prelude.{Some, None}
 use lib.Bits.{bit_or}
 use Rattle.word.specs.Digit.{among, digit_value, is_digit, below}
 use Rattle.word.proofs.digit.AllBytes.{at_byte}
@@ -62,7 +62,7 @@ module _ (c radix f l : ℕ) (byte : c < 256) (small : radix < 256) where
   told_by_range ef el = rw (ef, el) (go (among 48 57 c) (among 65 90 c) (among 97 122 c) refl refl refl (all_apart c byte)) where
     go : (x y z : Bool) → among 48 57 c ≡ x → among 65 90 c ≡ y → among 97 122 c ≡ z → apart c ≡ true
         → (ltb (figure c) (min radix 10) || ltb (letter c) (min (radix - 10) 26))
-        ≡ below (cond (among 48 57 c) (some (c - 48)) (cond (among 65 90 c) (some (c - 65 + 10)) (cond (among 97 122 c) (some (c - 97 + 10)) none))) radix
+        ≡ below (cond (among 48 57 c) (Some (c - 48)) (cond (among 65 90 c) (Some (c - 65 + 10)) (cond (among 97 122 c) (Some (c - 97 + 10)) None))) radix
     go true y z p q r e =
         let both = (and-eq-true_iff (eqb (figure c) (c - 48)) (leb 26 (letter c))).0 (rw p at e) in
         let same = eqb-true (figure c) (c - 48) both.0 in
@@ -91,5 +91,5 @@ module _ (c radix f l : ℕ) (byte : c < 256) (small : radix < 256) where
 pub told_by_figure : (c radix f : ℕ) → c < 256 → radix ≤ 10 → f ≡ figure c → ltb f radix ≡ is_digit c radix
 told_by_figure c radix f byte small ef =
     let figures : min radix 10 ≡ radix = omega arith in
-    let none : ltb (letter c) (min (radix - 10) 26) ≡ false = le-ltb (letter c) (min (radix - 10) 26) (omega arith) in
-    sym (or_false (ltb f radix)) ∙ rw (figures, none) at (told_by_range c radix f (letter c) byte (omega arith) ef refl)
+    let no_letter : ltb (letter c) (min (radix - 10) 26) ≡ false = le-ltb (letter c) (min (radix - 10) 26) (omega arith) in
+    sym (or_false (ltb f radix)) ∙ rw (figures, no_letter) at (told_by_range c radix f (letter c) byte (omega arith) ef refl)

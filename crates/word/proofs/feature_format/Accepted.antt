@@ -1,7 +1,7 @@
 -- What a word has that the full check accepts, for demand 3 of the reader: its separator is no digit (line 4), and no reader has the
 -- consecutive flag alone (lines 12 to 14). Assumes nothing.
 use Rattle.std.proofs.Common.{◌≡◌, ℕ, zero, suc, ◌≤◌, max, Bool, true, false, not, List, [], ◌∷◌, ◌++◌, refl, arith, ltb-false, le-ltb}
-use mathlib.Core.Option.{Option, some, none}
+use Rattle.std.specs.Prelude.{Option, Some, None}
 use borrow.Author.Tests.{not-true}
 use Rattle.word.specs.declared.format_flags.Format.{Format}
 use Rattle.word.specs.Word.{digit_separator, base_prefix, base_suffix, mantissa_radix, exponent_radix}
@@ -20,8 +20,8 @@ line_holds n false rest e = absurd (omega arith)
 
 -- a byte that is no digit of a radix is none of a smaller one
 less_below : (v : Option ℕ) (small large : ℕ) → small ≤ large → below v large ≡ false → below v small ≡ false
-less_below (some v) small large h e = le-ltb v small (omega (arith, ltb-false v large e))
-less_below none small large h e = le-ltb 255 small (omega (arith, ltb-false 255 large e))
+less_below (Some v) small large h e = le-ltb v small (omega (arith, ltb-false v large e))
+less_below None small large h e = le-ltb 255 small (omega (arith, ltb-false 255 large e))
 
 no_digit : (radix c : ℕ) → valid_control_in radix c ≡ true → is_digit c radix ≡ false
 unfolding valid_control_in

@@ -3,4 +3,4 @@ use Rattle.catalogue.proofs.entries.Words.{word_school, word_lo, word_hi}
 use Rattle.catalogue.proofs.entries.entry_at.Goals as goal
 
 pub returns : goal.returns
-returns c = rw (word_school _ c.requires.0 _, word_lo _ c.requires.0 _, word_hi _ c.requires.0 _)
+returns c = rw (word_school _ c.told-words _, word_lo _ c.told-words _, word_hi _ c.told-words _)

@@ -4,8 +4,8 @@ use Rattle.cells.proofs.digit_run.ended.Goals as goal
 
 pub returns-then-taken-eq0 : goal.returns-then-taken-eq0
 returns-then-taken-eq0 c =
-    rw (c.run_answered.ensures, eq-eqb _ _ c.if-taken-eq0.true)
+    rw (c.refused.ensures, eq-eqb _ _ c.if-taken-eq0.true)
 
 pub returns : goal.returns
 returns c =
-    rw (c.run_answered-2.ensures, ne_eqb _ _ c.if-taken-eq0.false)
+    rw (c.new.ensures, ne_eqb _ _ c.if-taken-eq0.false)

@@ -1,9 +1,7 @@
 -- `cells::digit_run::separator_step` meets its contract, by the answers of its calls (Answers). Assumes nothing.
-use mathlib.Core.Path.{ap}
+use mathlib.Core.Path.{◌∙◌, sym, ap}
 use mathlib.Core.Bool.{true, false}
-use Rattle.reader.specs.declared.skip.Seen.{Seen}
 use Rattle.reader.specs.Reading.{reading_with}
-use Rattle.reader.specs.Answer.{seen_byte}
 use Rattle.cells.specs.DigitRun.{sees_digit}
 use Rattle.cells.proofs.digit_run.Answers.{left_fits, sees_digit_lem, told_over, told_taken}
 use Rattle.cells.proofs.digit_run.separator_step.Goals as goal
@@ -18,22 +16,16 @@ pub returns-then-char_is_digit_by_table : goal.returns-then-char_is_digit_by_tab
 returns-then-char_is_digit_by_table c =
     let a = c.args in
     let from = rw c.moved.ensures at c.with_count-here.ensures in
-    told_taken a.syntax a.s.now a.reader a.state a.at a.count c.requires.1 c.requires.0 c.with_count-here.result from c.peek-seen.result c.peek-seen.ensures (sees_digit_lem a.syntax _ _ c.in-Byte.is _ c.char_is_digit_by_table.ensures true c.if-char_is_digit_by_table.true) _ c.take_seen.ensures
+    told_taken a.syntax a.s.now a.reader a.state a.at a.count c.requires.1 c.requires.0 c.with_count-here.result from c.peek-seen.result c.peek-seen.ensures (sees_digit_lem a.syntax _ _ (sym c.byte.ensures ∙ c.in-Some.is) _ c.char_is_digit_by_table.ensures true c.if-char_is_digit_by_table.true) _ c.take_seen.ensures
 
 pub returns-else-char_is_digit_by_table : goal.returns-else-char_is_digit_by_table
 returns-else-char_is_digit_by_table c =
     let a = c.args in
     let from = rw c.moved.ensures at c.with_count-here.ensures in
-    told_over a.syntax a.s.now a.reader a.state a.at a.count c.requires.1 c.requires.0 c.with_count-here.result from c.peek-seen.result c.peek-seen.ensures (sees_digit_lem a.syntax _ _ c.in-Byte.is _ c.char_is_digit_by_table.ensures false c.if-char_is_digit_by_table.false)
+    told_over a.syntax a.s.now a.reader a.state a.at a.count c.requires.1 c.requires.0 c.with_count-here.result from c.peek-seen.result c.peek-seen.ensures (sees_digit_lem a.syntax _ _ (sym c.byte.ensures ∙ c.in-Some.is) _ c.char_is_digit_by_table.ensures false c.if-char_is_digit_by_table.false)
 
-pub returns-in-End : goal.returns-in-End
-returns-in-End c =
+pub returns-in-None : goal.returns-in-None
+returns-in-None c =
     let a = c.args in
     let from = rw c.moved.ensures at c.with_count-here.ensures in
-    told_over a.syntax a.s.now a.reader a.state a.at a.count c.requires.1 c.requires.0 c.with_count-here.result from c.peek-seen.result c.peek-seen.ensures (ap (λ (o : Seen). sees_digit (reading_with a.syntax) (seen_byte o)) c.in-End.is)
-
-pub returns-in-Refused : goal.returns-in-Refused
-returns-in-Refused c =
-    let a = c.args in
-    let from = rw c.moved.ensures at c.with_count-here.ensures in
-    told_over a.syntax a.s.now a.reader a.state a.at a.count c.requires.1 c.requires.0 c.with_count-here.result from c.peek-seen.result c.peek-seen.ensures (ap (λ (o : Seen). sees_digit (reading_with a.syntax) (seen_byte o)) c.in-Refused.is)
+    told_over a.syntax a.s.now a.reader a.state a.at a.count c.requires.1 c.requires.0 c.with_count-here.result from c.peek-seen.result c.peek-seen.ensures (ap (sees_digit (reading_with a.syntax)) (sym c.byte.ensures ∙ c.in-None.is))

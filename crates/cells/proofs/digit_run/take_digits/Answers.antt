@@ -1,9 +1,7 @@
 -- `cells::digit_run::take_digits` meets its contract: its numbers stand for the digits taken so far (RunLoop). Assumes nothing.
-use mathlib.Core.Path.{◌∙◌, sym, ap}
+use mathlib.Core.Path.{◌∙◌, sym}
 use native.Mathlib.Omega.{arith}
-use borrow.Author.Tests.{not-true, not-false}
 use Rattle.reader.specs.Reading.{reading_with}
-use Rattle.cells.specs.declared.value.Grown.{Grown}
 use Rattle.cells.proofs.value.Growing.{grown_in, grown_out}
 use Rattle.cells.proofs.digit_run.Answers.{told_takes, told_ends}
 use Rattle.cells.proofs.digit_run.RunLoop.{running_starts, running_on, running_room, running_outgrown, over_fits, running_over}
@@ -18,14 +16,13 @@ pub step_at-step-requires : goal.step_at-step-requires
 step_at-step-requires c =
     (c.requires.0, c.loop-c.invariant.stands, c.loop-c.invariant.known)
 
-pub returns-then-not-grown : goal.returns-then-not-grown
-returns-then-not-grown c =
+pub returns-in_default : goal.returns-in_default
+returns-in_default c =
     let a = c.args in
     let now = c.loop-c.invariant in
     let one = c.step_at-step in
     let took = told_takes (reading_with a.syntax) a.s.now a.reader a.state c.loop-c.at c.loop-c.count one.result one.ensures c.in-Taken.is in
-    let grown = c.with_digit-grown.ensures in
-    rw c.run_answered.ensures (running_outgrown a.syntax a.s.now a.reader a.state c.requires.1 c.loop-c.at c.loop-c.count c.loop-c.value c.loop-c.taken c.loop-c.passed c.loop-c.refused now _ _ _ _ took (grown_out _ (sym (ap (λ (g : Grown). g.fits) grown) ∙ not-true _ c.if-not-grown.true)))
+    rw c.refused.ensures (running_outgrown a.syntax a.s.now a.reader a.state c.requires.1 c.loop-c.at c.loop-c.count c.loop-c.value c.loop-c.taken c.loop-c.passed c.loop-c.refused now _ _ _ _ took (grown_out _ (sym c.with_digit.ensures ∙ c.in_default.is)))
 
 pub overflow_add-taken : goal.overflow_add-taken
 overflow_add-taken c =
@@ -57,10 +54,9 @@ loop-c-preserved c =
     let now = c.loop-c.invariant in
     let one = c.step_at-step in
     let took = told_takes (reading_with a.syntax) a.s.now a.reader a.state c.loop-c.at c.loop-c.count one.result one.ensures c.in-Taken.is in
-    let grown = c.with_digit-grown.ensures in
-    let fits = grown_in _ (sym (ap (λ (g : Grown). g.fits) grown) ∙ not-false _ c.if-not-grown.false) in
+    let grown = grown_in _ _ (sym c.with_digit.ensures ∙ c.in-Some.is) in
     rw c.stays_refused-refused.ensures
-    (running_on a.syntax a.s.now a.reader a.state c.requires.1 c.loop-c.at c.loop-c.count c.loop-c.value c.loop-c.taken c.loop-c.passed c.loop-c.refused now _ _ _ _ took _ (ap (λ (g : Grown). g.value) grown ∙ fits.0) (omega (arith, ap (λ (g : Grown). g.value) grown, fits.0, fits.1)))
+    (running_on a.syntax a.s.now a.reader a.state c.requires.1 c.loop-c.at c.loop-c.count c.loop-c.value c.loop-c.taken c.loop-c.passed c.loop-c.refused now _ _ _ _ took _ grown.0 (omega (arith, grown.0, grown.1)))
 
 pub overflow_add-all : goal.overflow_add-all
 overflow_add-all c =

@@ -1,8 +1,6 @@
--- `cells::value::times_plus` meets its contract, by halves (Growing). Assumes nothing.
-use mathlib.Core.Path.{refl, sym}
-use Prim.Native.Nat.{◌+◌, ◌*◌, ◌/◌, ◌%◌}
-use native.Mathlib.Omega.{arith}
-use Rattle.cells.proofs.value.Growing.{times_fits, by_halves, fits_in, grows_out}
+-- `cells::value::times_plus` meets its contract (Growing). Assumes nothing.
+use Rattle.std.proofs.Common.{◌≡◌, refl, ◌+◌, ◌*◌, arith}
+use Rattle.cells.proofs.value.Growing.{times_fits, fits_in, grows_out}
 use Rattle.cells.proofs.value.times_plus.Goals as goal
 
 pub overflow_mul-result : goal.overflow_mul-result
@@ -20,34 +18,14 @@ returns-then-small c =
     let a = c.args in
     fits_in (a.value * a.radix + a.digit) _ refl (omega (arith, times_fits 72057594037927935 a.value a.radix (omega arith) c.requires.0, c.requires.1))
 
-pub overflow_mul-below : goal.overflow_mul-below
-overflow_mul-below c =
-    let a = c.args in
-    omega (arith, times_fits 4294967295 (a.value % 4294967296) a.radix (omega arith) c.requires.0)
-
-pub overflow_add-below : goal.overflow_add-below
-overflow_add-below c =
-    let a = c.args in
-    omega (arith, times_fits 4294967295 (a.value % 4294967296) a.radix (omega arith) c.requires.0, c.requires.1)
-
-pub overflow_mul-above : goal.overflow_mul-above
-overflow_mul-above c =
-    let a = c.args in
-    omega (arith, times_fits 4294967295 (a.value / 4294967296) a.radix (omega arith) c.requires.0)
-
-pub overflow_add-above : goal.overflow_add-above
-overflow_add-above c =
-    let a = c.args in
-    omega (arith, times_fits 4294967295 (a.value % 4294967296) a.radix (omega arith) c.requires.0, times_fits 4294967295 (a.value / 4294967296) a.radix (omega arith) c.requires.0, c.requires.1)
-
 pub returns-then-fits : goal.returns-then-fits
 returns-then-fits c =
     let a = c.args in
-    let halves = by_halves a.value a.radix a.digit in
-    fits_in _ _ (sym halves) (omega (arith, halves))
+    let same : c.from.result * c.from-2.result + c.from-3.result ≡ a.value * a.radix + a.digit = rw (c.from.ensures, c.from-2.ensures, c.from-3.ensures) in
+    fits_in _ _ same (omega (arith, same, c.if-fits.true))
 
 pub returns : goal.returns
 returns c =
     let a = c.args in
-    let halves = by_halves a.value a.radix a.digit in
-    grows_out _ (omega (arith, halves))
+    let same : c.from.result * c.from-2.result + c.from-3.result ≡ a.value * a.radix + a.digit = rw (c.from.ensures, c.from-2.ensures, c.from-3.ensures) in
+    grows_out _ (omega (arith, same, c.if-fits.false))

@@ -1,20 +1,19 @@
 -- `cells::value::with_digit` meets its contract. Assumes nothing.
-use mathlib.Core.Path.{◌∙◌, refl, sym, ap}
-use native.Mathlib.Omega.{arith}
-use Rattle.word.specs.Digit.{value_of}
-use Rattle.cells.proofs.value.Growing.{fits_in}
+use Rattle.std.proofs.Common.{◌∙◌, refl, sym, arith}
+use Rattle.cells.proofs.value.Growing.{value_small, fits_in}
 use Rattle.cells.proofs.value.with_digit.Goals as goal
 
 pub times_plus-requires : goal.times_plus-requires
 times_plus-requires c =
-    (c.wide.ensures.1, c.wide-in-Value.ensures.1)
+    let small = value_small c.args.c c.in-Some.d (sym c.digit_value-digit.ensures ∙ c.in-Some.is) in
+    (omega (arith, c.from.ensures, c.ranges.radix), omega (arith, c.from-in-Some.ensures, small))
 
-pub returns-in-Value : goal.returns-in-Value
-returns-in-Value c =
-    let value = sym c.digit_value-digit.ensures ∙ ap value_of c.in-Value.is in
-    rw (c.times_plus.ensures, c.wide-in-Value.ensures.0, c.wide.ensures.0, value)
+pub returns-in-Some : goal.returns-in-Some
+returns-in-Some c =
+    let value = sym c.digit_value-digit.ensures ∙ c.in-Some.is in
+    rw (c.times_plus.ensures, c.from-in-Some.ensures, c.from.ensures, value)
 
-pub returns-in-NoValue : goal.returns-in-NoValue
-returns-in-NoValue c =
-    let value = sym c.digit_value-digit.ensures ∙ ap value_of c.in-NoValue.is in
+pub returns-in-None : goal.returns-in-None
+returns-in-None c =
+    let value = sym c.digit_value-digit.ensures ∙ c.in-None.is in
     rw value (fits_in _ _ refl (omega arith))

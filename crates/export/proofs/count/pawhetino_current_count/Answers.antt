@@ -1,34 +1,31 @@
 -- `export::count::pawhetino_current_count` meets its contract. Assumes nothing.
-use mathlib.Core.Path.{◌∙◌, refl, sym, ap}
-use Rattle.reader.specs.Answer.{count_outcome_of}
+use Rattle.std.proofs.Common.{refl, sym, ◌∙◌}
 use Rattle.export.specs.Calls.{counted_for}
 use Rattle.reader.proofs.state.Readers.{named, unnamed}
 use Rattle.export.proofs.count.pawhetino_current_count.Goals as goal
 
-pub returns-in-Shown : goal.returns-in-Shown
+pub returns-in-Ok-current_count : goal.returns-in-Ok-current_count
 unfolding counted_for
-returns-in-Shown c =
-    let e = named _ _ c.reader_on-by.ensures _ c.in-Known.is in
-    let outcome = rw c.state_in.ensures at c.current_count-shown.ensures in
-    rw (e, ← (sym (ap count_outcome_of c.in-Shown.is) ∙ outcome)) (record {
+returns-in-Ok-current_count c =
+    let e = named _ _ _ (sym c.in-Ok.is ∙ c.reader_on-by.ensures) in
+    rw (e, ← rw c.state_in.ensures at c.in-Ok-current_count.ensures) (record {
       number = refl;
       written = refl;
     })
 
-pub returns-in-Refused : goal.returns-in-Refused
+pub returns-in-Err-current_count : goal.returns-in-Err-current_count
 unfolding counted_for
-returns-in-Refused c =
-    let e = named _ _ c.reader_on-by.ensures _ c.in-Known.is in
-    let outcome = rw c.state_in.ensures at c.current_count-shown.ensures in
-    rw (e, ← (sym (ap count_outcome_of c.in-Refused.is) ∙ outcome)) (record {
+returns-in-Err-current_count c =
+    let e = named _ _ _ (sym c.in-Ok.is ∙ c.reader_on-by.ensures) in
+    rw (e, ← rw c.state_in.ensures at c.in-Err-current_count.ensures) (record {
       number = c.number.ensures;
       written = refl;
     })
 
-pub returns-in-Unknown : goal.returns-in-Unknown
+pub returns-in-Err : goal.returns-in-Err
 unfolding counted_for
-returns-in-Unknown c =
-    let e = unnamed _ _ c.reader_on-by.ensures c.in-Unknown.is in
+returns-in-Err c =
+    let e = unnamed _ _ _ (sym c.in-Err.is ∙ c.reader_on-by.ensures) in
     rw e (record {
       number = refl;
       written = refl;

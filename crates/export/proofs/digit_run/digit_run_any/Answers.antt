@@ -1,20 +1,14 @@
 -- `export::digit_run::digit_run_any` meets its contract. Assumes nothing.
-use mathlib.Core.Path.{◌∙◌, ap}
+use Rattle.std.proofs.Common.{refl, ap, ◌∙◌, rules}
+use Rattle.cells.specs.DigitRun.{error_number}
 use Rattle.export.specs.Calls.{digit_run_by}
-use Rattle.export.specs.Code.Reply.{value_reply}
-use Rattle.export.proofs.reply.Words.{written_as, value-refused}
-use Rattle.reader.proofs.state.Readers.{named, unnamed}
+use Rattle.export.specs.Code.Reply.{value_reply, run_told}
+use Rattle.export.proofs.reply.Words.{value_law, served_as}
 use Rattle.export.proofs.digit_run.digit_run_any.Goals as goal
 
-pub returns-in-Known : goal.returns-in-Known
+pub returns : goal.returns
 unfolding digit_run_by value_reply
-returns-in-Known c =
-    let e = named _ _ c.reader_on-by.ensures _ c.in-Known.is in
-    let outcome = rw c.state_in-here.ensures at c.digit_run.ensures in
-    rw e (written_as c.args.state.now _ _ (c.of_run-reply.ensures ∙ ap (value_reply _) outcome) c.put.ensures)
-
-pub returns-in-Unknown : goal.returns-in-Unknown
-unfolding digit_run_by value_reply
-returns-in-Unknown c =
-    let e = unnamed _ _ c.reader_on-by.ensures c.in-Unknown.is in
-    rw e (written_as c.args.state.now _ _ (c.refused-reply.ensures ∙ rw c.state_in-here.ensures (value-refused 19 _ _)) c.put-in-Unknown.ensures)
+returns c =
+    let a = c.args in
+    served_as run_told error_number value_reply a.reader a.state.now a.answer.now _ _ refl c.served.ensures
+    (λ r x says. value_law x ∙ ap value_reply (search rules))

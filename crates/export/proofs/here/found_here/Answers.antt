@@ -1,12 +1,9 @@
 -- `export::here::found_here` meets its contract: each test in its turn. Assumes nothing.
-use Rattle.export.proofs.here.Tests.{low, here_unserved, here_unclear, here_outside, here_end, here_separator, here_byte}
+use Rattle.export.proofs.here.Tests.{here_unserved, here_unclear, here_outside, here_end, here_separator, here_byte}
 use Rattle.export.proofs.here.found_here.Goals as goal
 
 pub returns-then-reader-edition : goal.returns-then-reader-edition
 returns-then-reader-edition c = let a = c.args in here_unserved a.reader a.state.now a.s.now c.if-reader-edition.true
-
-pub own_bits-own-requires : goal.own_bits-own-requires
-own_bits-own-requires c = let a = c.args in low a.reader a.state.now a.s.now c.if-reader-edition.false
 
 pub returns-then-is_alone-counts_fit : goal.returns-then-is_alone-counts_fit
 returns-then-is_alone-counts_fit c =

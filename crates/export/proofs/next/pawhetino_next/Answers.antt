@@ -7,12 +7,6 @@ use Rattle.export.proofs.here.Calls.{next_words, taken_end}
 use Rattle.export.proofs.over.Steps.{next_over_words}
 use Rattle.export.proofs.next.pawhetino_next.Goals as goal
 
-pub own_bits-requires : goal.own_bits-requires
-own_bits-requires c =
-    let a = c.args in
-    let here = byte_sight a.reader a.state.now a.s.now _ c.found_here-here.ensures _ c.in-Byte.is in
-    here.low
-
 pub overflow_add-past : goal.overflow_add-past
 overflow_add-past c =
     let a = c.args in
@@ -44,7 +38,7 @@ returns-in-Byte c =
     let a = c.args in
     let here = byte_sight a.reader a.state.now a.s.now _ c.found_here-here.ensures _ c.in-Byte.is in
     let own = c.own_bits.ensures in
-    rw (c.put_at.ensures, c.wide-byte.ensures)
+    rw (c.put_at.ensures, c.from-byte.ensures)
     (next_words a.reader a.state.now a.s.now _ here a.answer.now _
     (rw (c.char_is_digit_by_table.ensures, c.has_any.ensures, own.shifted, c.radix_of.ensures)) own.small)
 
@@ -53,8 +47,3 @@ returns-in-End c =
     let a = c.args in
     let here = end_sight a.reader a.state.now a.s.now _ c.found_here-here.ensures c.in-End.is in
     rw (taken_end a.reader a.state.now a.s.now here) c.answer_none.ensures
-
-pub returns-else-over_here : goal.returns-else-over_here
-returns-else-over_here c =
-    let told = c.over_here.ensures in
-    rw (told.moved, told.written, c.if-over_here.false) at c.next_any-in-Separator.ensures

@@ -1,6 +1,6 @@
 -- `export::next_all::grouped_cell` meets its contract: at every turn its numbers are those of the takes. Assumes nothing.
 use mathlib.Core.Path.{◌≡◌, sym, ◌∙◌}
-use mathlib.Core.Bool.{Bool, true, false, cond, false≢true}
+use mathlib.Core.Bool.{Bool, true, false, cond}
 use Prim.Native.Nat.{ℕ, ◌+◌, ◌≤◌}
 use native.Mathlib.Omega.{arith}
 use borrow.Author.Tests.{not-false}
@@ -18,18 +18,6 @@ loop-at-init c =
     let a = c.args in
     (omega arith, omega arith, omega arith, λ x f r b. grouped_starts a.separator a.radix a.s.now x f r b)
 
-pub bounds-s-at : goal.bounds-s-at
-bounds-s-at c = omega arith
-
-pub count_past-count-requires : goal.count_past-count-requires
-count_past-count-requires c = omega arith
-
-pub overflow_add-at : goal.overflow_add-at
-overflow_add-at c = omega arith
-
-pub loop-at-smaller-then-b-separator : goal.loop-at-smaller-then-b-separator
-loop-at-smaller-then-b-separator c = omega arith
-
 pub loop-at-preserved-then-b-separator : goal.loop-at-preserved-then-b-separator
 loop-at-preserved-then-b-separator c =
     let a = c.args in
@@ -37,48 +25,6 @@ loop-at-preserved-then-b-separator c =
     let i = c.loop-at.invariant in
     let counted : c.count_past-count.result ≤ c.loop-at.count + 1 = rw c.count_past-count.ensures (at_most (is_digit (get_or a.s.now c.loop-at.at 0) a.radix) c.loop-at.count) in
     (omega (arith, inside), omega (arith, counted, i.1), omega (arith, i.2), λ x f r b. rw c.count_past-count.ensures (grouped_on a.separator a.radix a.s.now x f r b c.loop-at.at c.loop-at.count c.loop-at.passed (i.3 x f r b) inside c.if-b-separator.true))
-
-pub overflow_add-n : goal.overflow_add-n
-overflow_add-n c = omega arith
-
-pub returns-then-s-n : goal.returns-then-s-n
-returns-then-s-n c = rw c.not_grouped.ensures (record {
-  fits = omega arith;
-  cell = λ e. absurd (false≢true e);
-})
-
-pub returns-then-early : goal.returns-then-early
-returns-then-early c = rw c.not_grouped-then-early.ensures (record {
-  fits = omega arith;
-  cell = λ e. absurd (false≢true e);
-})
-
-pub bounds-s-n : goal.bounds-s-n
-bounds-s-n c = omega arith
-
-pub returns-then-double : goal.returns-then-double
-returns-then-double c = rw c.not_grouped-then-double.ensures (record {
-  fits = omega arith;
-  cell = λ e. absurd (false≢true e);
-})
-
-pub returns-then-not-char_is_digit_by_range : goal.returns-then-not-char_is_digit_by_range
-returns-then-not-char_is_digit_by_range c = rw c.not_grouped-then-not-char_is_digit_by_range.ensures (record {
-  fits = omega arith;
-  cell = λ e. absurd (false≢true e);
-})
-
-pub overflow_add-count : goal.overflow_add-count
-overflow_add-count c = omega arith
-
-pub overflow_add-passed : goal.overflow_add-passed
-overflow_add-passed c = omega arith
-
-pub overflow_add-at-in-loop-at : goal.overflow_add-at-in-loop-at
-overflow_add-at-in-loop-at c = omega arith
-
-pub loop-at-smaller : goal.loop-at-smaller
-loop-at-smaller c = omega arith
 
 pub loop-at-preserved : goal.loop-at-preserved
 loop-at-preserved c =
@@ -92,7 +38,5 @@ pub returns : goal.returns
 returns c =
     let a = c.args in
     let i = c.loop-at.invariant in
-    let same : c.loop-at.at ≡ length a.s.now = omega (arith, i.0, c.loop-at-test.false) in record {
-      fits = omega (arith, i.2, i.0);
-      cell = λ so x f r b. grouped_out a.separator a.radix a.s.now x f r b c.loop-at.at c.loop-at.count c.loop-at.passed (i.3 x f r b) same;
-    }
+    let same : c.loop-at.at ≡ length a.s.now = omega (arith, i.0, c.loop-at-test.false) in
+    (omega (arith, i.2, i.0), λ x f r b. grouped_out a.separator a.radix a.s.now x f r b c.loop-at.at c.loop-at.count c.loop-at.passed (i.3 x f r b) same)

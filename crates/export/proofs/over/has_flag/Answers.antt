@@ -13,4 +13,4 @@ pub returns : goal.returns
 unfolding bit flag field
 returns c =
     let a = c.args in
-    c.bit_at.ensures ∙ ap (λ (k : ℕ). eqb k 1) (low_half a.format (a.first + a.reader) 1 (search rules) (omega (arith, c.requires)))
+    rw c.from.ensures at c.bit_at.ensures ∙ ap (λ (k : ℕ). eqb k 1) (low_half a.format (a.first + a.reader) 1 (search rules) (omega (arith, c.requires)))

@@ -1,6 +1,6 @@
 -- `export::peek::pawhetino_peek` meets its contract: a byte that is no separator, the end, and a digit behind a separator that is passed are
 -- seen by numbers, anything else is left to the reader. Assumes nothing.
-use mathlib.Core.Path.{◌∙◌, refl, sym}
+use mathlib.Core.Path.{◌∙◌, sym}
 use Rattle.export.proofs.here.Sight.{byte_sight, end_sight, on_separator}
 use Rattle.export.proofs.here.Calls.{peeked_here}
 use Rattle.export.proofs.over.Steps.{peek_over_words}
@@ -23,19 +23,10 @@ pub returns-in-Byte : goal.returns-in-Byte
 returns-in-Byte c =
     let a = c.args in
     let here = byte_sight a.reader a.state.now a.s.now _ c.found_here-here.ensures _ c.in-Byte.is in
-    rw (c.keep.ensures, c.wide-byte.ensures, peeked_here a.reader a.state.now a.s.now _ here) (record {
-      number = refl;
-      moved = refl;
-      written = refl;
-    })
+    rw (peeked_here a.reader a.state.now a.s.now _ here) (rw c.from-byte.ensures at c.stay.ensures)
 
 pub returns-in-End : goal.returns-in-End
 returns-in-End c =
     let a = c.args in
     let here = end_sight a.reader a.state.now a.s.now _ c.found_here-here.ensures c.in-End.is in
     rw (peeked_here a.reader a.state.now a.s.now _ here) c.answer_none.ensures
-
-pub returns-else-over_here : goal.returns-else-over_here
-returns-else-over_here c =
-    let told = c.over_here.ensures in
-    rw (told.moved, told.written, c.if-over_here.false) at c.peek_any-in-Separator.ensures

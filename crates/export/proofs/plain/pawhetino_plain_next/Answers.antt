@@ -1,21 +1,11 @@
 -- `export::plain::pawhetino_plain_next` meets its contract. Assumes nothing.
-use mathlib.Core.Path.{refl}
+use Rattle.std.proofs.Common.{rules}
 use Rattle.export.specs.Plain.{plain_taken_by}
-use Rattle.reader.proofs.state.Readers.{named, unnamed}
+use Rattle.export.proofs.plain.Words.{plain_served_as}
 use Rattle.export.proofs.plain.pawhetino_plain_next.Goals as goal
 
-pub returns-in-Known : goal.returns-in-Known
+pub returns : goal.returns
 unfolding plain_taken_by
-returns-in-Known c =
-    let e = named _ _ c.reader_named-by.ensures _ c.in-Known.is in
-    rw (e, ← c.next-answered.ensures) c.put_plain.ensures
-
-pub returns-in-Unknown : goal.returns-in-Unknown
-unfolding plain_taken_by
-returns-in-Unknown c =
-    let e = unnamed _ _ c.reader_named-by.ensures c.in-Unknown.is in
-    rw e (record {
-      number = c.unknown.ensures.number;
-      moved = refl;
-      written = c.unknown.ensures.written;
-    })
+returns c =
+    let a = c.args in
+    plain_served_as a.reader a.cursor.now a.answer.now _ c.plain_served.ensures (λ r x says. search rules)

@@ -21,4 +21,4 @@ pub returns : goal.returns
 unfolding member
 returns c =
     let b = c.args.b in
-    c.bit_at.ensures ∙ ap (λ (x : ℕ). bit x (b % 64)) (sym (own_word c.args.set.now (b / 64) (search rules)))
+    rw (c.from-at.ensures, c.from.ensures) at c.bit_at.ensures ∙ ap (λ (x : ℕ). bit x (b % 64)) (sym (own_word c.args.set.now (b / 64) (search rules)))

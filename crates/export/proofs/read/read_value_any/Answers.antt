@@ -1,20 +1,14 @@
 -- `export::read::read_value_any` meets its contract. Assumes nothing.
-use mathlib.Core.Path.{◌∙◌, ap}
+use Rattle.std.proofs.Common.{refl, ap, ◌∙◌, rules}
+use Rattle.reader.specs.Answer.{number_of}
 use Rattle.export.specs.Calls.{read_by}
-use Rattle.export.specs.Code.Reply.{read_reply}
-use Rattle.export.proofs.reply.Words.{written_as, read_refused}
-use Rattle.reader.proofs.state.Readers.{named, unnamed}
+use Rattle.export.specs.Code.Reply.{read_reply, read_told}
+use Rattle.export.proofs.reply.Words.{read_law, served_as}
 use Rattle.export.proofs.read.read_value_any.Goals as goal
 
-pub returns-in-Known : goal.returns-in-Known
+pub returns : goal.returns
 unfolding read_by read_reply
-returns-in-Known c =
-    let e = named _ _ c.reader_on-by.ensures _ c.in-Known.is in
-    let outcome = rw c.state_in-here.ensures at c.read_if_value_cased.ensures in
-    rw e (written_as c.args.state.now _ _ (c.of_read-reply.ensures ∙ ap (read_reply _) outcome) c.put.ensures)
-
-pub returns-in-Unknown : goal.returns-in-Unknown
-unfolding read_by read_reply
-returns-in-Unknown c =
-    let e = unnamed _ _ c.reader_on-by.ensures c.in-Unknown.is in
-    rw e (written_as c.args.state.now _ _ (c.refused-reply.ensures ∙ rw c.state_in-here.ensures (read_refused 19 _ _)) c.put-in-Unknown.ensures)
+returns c =
+    let a = c.args in
+    served_as read_told number_of read_reply a.reader a.state.now a.answer.now _ _ refl c.served.ensures
+    (λ r x says. read_law x ∙ ap read_reply (search rules))

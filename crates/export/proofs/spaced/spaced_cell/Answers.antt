@@ -1,6 +1,6 @@
 -- `export::spaced::spaced_cell` meets its contract: at every turn its numbers are those of the takes. Assumes nothing.
 use mathlib.Core.Path.{◌≡◌, sym, ◌∙◌, ap}
-use mathlib.Core.Bool.{Bool, true, false, cond, false≢true}
+use mathlib.Core.Bool.{Bool, true, false, cond}
 use Prim.Native.Nat.{ℕ, ◌+◌, ◌≤◌}
 use native.Mathlib.Omega.{arith}
 use borrow.Author.Tests.{not-false}
@@ -20,18 +20,6 @@ loop-at-init c =
     let a = c.args in
     (omega arith, omega arith, omega arith, λ x f r b together. grouped_starts a.separator a.radix a.s.now x f r b)
 
-pub bounds-s-at : goal.bounds-s-at
-bounds-s-at c = omega arith
-
-pub count_past-count-requires : goal.count_past-count-requires
-count_past-count-requires c = omega arith
-
-pub overflow_add-at : goal.overflow_add-at
-overflow_add-at c = omega arith
-
-pub loop-at-smaller-then-b-separator : goal.loop-at-smaller-then-b-separator
-loop-at-smaller-then-b-separator c = omega arith
-
 pub loop-at-preserved-then-b-separator : goal.loop-at-preserved-then-b-separator
 loop-at-preserved-then-b-separator c =
     let a = c.args in
@@ -39,47 +27,6 @@ loop-at-preserved-then-b-separator c =
     let i = c.loop-at.invariant in
     let counted : c.count_past-count.result ≤ c.loop-at.count + 1 = rw c.count_past-count.ensures (at_most (is_digit (get_or a.s.now c.loop-at.at 0) a.radix) c.loop-at.count) in
     (omega (arith, inside), omega (arith, counted, i.1), omega (arith, i.2), λ x f r b together. rw c.count_past-count.ensures (grouped_on a.separator a.radix a.s.now x f r b c.loop-at.at c.loop-at.count c.loop-at.passed (i.3 x f r b together) inside c.if-b-separator.true))
-
-pub returns-then-early : goal.returns-then-early
-returns-then-early c = rw c.not_grouped.ensures (record {
-  fits = omega arith;
-  cell = λ e. absurd (false≢true e);
-})
-
-pub returns-then-s-end : goal.returns-then-s-end
-returns-then-s-end c = rw c.not_grouped-then-s-end.ensures (record {
-  fits = omega arith;
-  cell = λ e. absurd (false≢true e);
-})
-
-pub bounds-s-end : goal.bounds-s-end
-bounds-s-end c = omega arith
-
-pub returns-then-not-char_is_digit_by_range : goal.returns-then-not-char_is_digit_by_range
-returns-then-not-char_is_digit_by_range c = rw c.not_grouped-then-not-char_is_digit_by_range.ensures (record {
-  fits = omega arith;
-  cell = λ e. absurd (false≢true e);
-})
-
-pub overflow_add-count : goal.overflow_add-count
-overflow_add-count c = omega arith
-
--- the end of the run lies behind its first separator
-pub overflow_sub-passed : goal.overflow_sub-passed
-overflow_sub-passed c =
-    let ends = ap (λ (f : RunSearch). f.end) c.search_run-end.ensures in
-    omega (arith, goes_on c.args.separator true c.args.s.now c.loop-at.at c.loop-at-test.true c.requires c.if-b-separator.false _ ends)
-
-pub overflow_add-passed : goal.overflow_add-passed
-overflow_add-passed c = omega (arith, c.if-s-end.false, c.loop-at.invariant.2)
-
-pub overflow_add-at-in-loop-at : goal.overflow_add-at-in-loop-at
-overflow_add-at-in-loop-at c = omega arith
-
-pub loop-at-smaller : goal.loop-at-smaller
-loop-at-smaller c =
-    let ends = ap (λ (f : RunSearch). f.end) c.search_run-end.ensures in
-    omega (arith, c.if-s-end.false, goes_on c.args.separator true c.args.s.now c.loop-at.at c.loop-at-test.true c.requires c.if-b-separator.false _ ends)
 
 pub loop-at-preserved : goal.loop-at-preserved
 loop-at-preserved c =
@@ -95,7 +42,5 @@ pub returns : goal.returns
 returns c =
     let a = c.args in
     let i = c.loop-at.invariant in
-    let same : c.loop-at.at ≡ length a.s.now = omega (arith, i.0, c.loop-at-test.false) in record {
-      fits = omega (arith, i.2, i.0);
-      cell = λ so x f r b together. grouped_out a.separator a.radix a.s.now x f r b c.loop-at.at c.loop-at.count c.loop-at.passed (i.3 x f r b together) same;
-    }
+    let same : c.loop-at.at ≡ length a.s.now = omega (arith, i.0, c.loop-at-test.false) in
+    (omega (arith, i.2, i.0), λ x f r b together. grouped_out a.separator a.radix a.s.now x f r b c.loop-at.at c.loop-at.count c.loop-at.passed (i.3 x f r b together) same)

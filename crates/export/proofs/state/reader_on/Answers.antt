@@ -9,4 +9,4 @@ returns-then-edition-ne0 c = rw (ne_eqb _ _ c.if-edition-ne0.true)
 
 pub returns : goal.returns
 unfolding reader_on
-returns c = rw (eq-eqb _ _ c.if-edition-ne0.false) c.reader_named.ensures
+returns c = rw (eq-eqb _ _ c.if-edition-ne0.false) c.try_from.ensures

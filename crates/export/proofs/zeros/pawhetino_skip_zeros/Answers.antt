@@ -9,10 +9,10 @@ pub returns-else-zero : goal.returns-else-zero
 returns-else-zero c =
     let a = c.args in
     let here = byte_sight a.reader a.state.now a.s.now _ c.found_here-here.ensures _ c.in-Byte.is in
-    rw (skipped_other a.reader a.state.now a.s.now _ here (ne_eqb _ _ c.if-zero.false)) c.answer_no_zeros.ensures
+    rw (skipped_other a.reader a.state.now a.s.now _ here (ne_eqb _ _ c.if-zero.false)) c.stay.ensures
 
 pub returns-in-End : goal.returns-in-End
 returns-in-End c =
     let a = c.args in
     let here = end_sight a.reader a.state.now a.s.now _ c.found_here-here.ensures c.in-End.is in
-    rw (skipped_end a.reader a.state.now a.s.now here) c.answer_no_zeros-in-End.ensures
+    rw (skipped_end a.reader a.state.now a.s.now here) c.stay-in-End.ensures

@@ -2,44 +2,39 @@
 use Rattle.std.proofs.Common.{sym, ◌∙◌, arith}
 use Rattle.word.specs.ByteSet.{member}
 use Rattle.reader.specs.Reading.{reading_with}
-use Rattle.reader.proofs.skip.Looks.{seen_as, reads_byte, declines_byte, reads_end, reads_refused}
+use Rattle.reader.proofs.skip.Looks.{reads_byte, declines_byte, reads_end, reads_refused}
 use Rattle.reader.proofs.iterator.read_in.Goals as goal
 
-pub overflow_add-place : goal.overflow_add-place
-overflow_add-place c =
-    let fits = rw c.in-Byte.is at c.look-looked.ensures.fits in
+pub overflow_add-seen : goal.overflow_add-seen
+overflow_add-seen c =
+    let fits = rw c.in-Some.is at c.in-Ok.ensures.fits in
     omega (arith, fits.0)
 
 pub returns-then-contains : goal.returns-then-contains
 returns-then-contains c =
     let a = c.args in
     let m = reading_with a.syntax in
-    rw (c.read_answered.ensures, c.moved.ensures)
-    (reads_byte m a.s.now a.state a.reader _ _ _
-    (seen_as m a.s.now a.state a.reader _ _ c.look-looked.ensures.outcome c.in-Byte.is)
+    rw (c.new-then-contains.ensures, c.moved.ensures)
+    (reads_byte m a.s.now a.state a.reader _ c.in-Ok.ensures.outcome _ c.in-Some.is
     (member a.wanted) (sym c.contains.ensures ∙ c.if-contains.true))
 
 pub returns-else-contains : goal.returns-else-contains
 returns-else-contains c =
     let a = c.args in
     let m = reading_with a.syntax in
-    rw (c.read_answered-in-Byte.ensures, c.moved-in-Byte.ensures)
-    (declines_byte m a.s.now a.state a.reader _ _ _
-    (seen_as m a.s.now a.state a.reader _ _ c.look-looked.ensures.outcome c.in-Byte.is)
+    rw (c.new-in-Ok.ensures, c.moved-there.ensures)
+    (declines_byte m a.s.now a.state a.reader _ c.in-Ok.ensures.outcome _ c.in-Some.is
     (member a.wanted) (sym c.contains.ensures ∙ c.if-contains.false))
 
-pub returns-in-End : goal.returns-in-End
-returns-in-End c =
+pub returns-in_default : goal.returns-in_default
+returns-in_default c =
     let a = c.args in
     let m = reading_with a.syntax in
-    rw (c.read_answered-in-End.ensures, c.moved-in-End.ensures)
-    (reads_end m a.s.now a.state a.reader _ _
-    (seen_as m a.s.now a.state a.reader _ _ c.look-looked.ensures.outcome c.in-End.is) (member a.wanted))
+    rw (c.new.ensures, c.moved-there.ensures)
+    (reads_end m a.s.now a.state a.reader _ c.in-Ok.ensures.outcome c.in_default.is (member a.wanted))
 
-pub returns-in-Refused : goal.returns-in-Refused
-returns-in-Refused c =
+pub returns-in-Err : goal.returns-in-Err
+returns-in-Err c =
     let a = c.args in
     let m = reading_with a.syntax in
-    rw c.read_answered-in-Refused.ensures
-    (reads_refused m a.s.now a.state a.reader _
-    (seen_as m a.s.now a.state a.reader _ _ c.look-looked.ensures.outcome c.in-Refused.is) (member a.wanted))
+    rw c.refused.ensures (reads_refused m a.s.now a.state a.reader _ c.in-Err.ensures.outcome (member a.wanted))

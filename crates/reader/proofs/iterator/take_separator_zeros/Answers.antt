@@ -1,7 +1,6 @@
 -- `reader::iterator::take_separator_zeros` meets its contract: the loop's numbers are those of a list of reads of `0` (ZeroLoop), also
 -- where it reads a refused run at once (ZeroRuns), and each turn moves the place on. Assumes nothing.
 use Rattle.std.proofs.Common.{sym, ◌∙◌, arith, eqb-true}
-use borrow.Author.Tests.{not-true, not-false}
 use Rattle.reader.specs.Reading.{reading_with}
 use Rattle.reader.proofs.iterator.ZeroLoop.{zero_there, skipping_starts, skipping_sums, skipping_over}
 use Rattle.reader.proofs.iterator.ZeroRuns.{skipping_taken}
@@ -27,7 +26,7 @@ overflow_add-passed c =
 
 pub past_taken-at-requires : goal.past_taken-at-requires
 past_taken-at-requires c =
-    let there = zero_there c.args.s.now c.landing-place.result (sym c.is_zero_at.ensures ∙ not-false _ c.if-not-is_zero_at.false-raw) in
+    let there = zero_there c.args.s.now c.landing-place.result (sym c.is_zero_at.ensures ∙ c.if-not-is_zero_at.false) in
     (there.0, λ e. eqb-true _ 48 there.1 ∙ sym c.requires.1)
 
 pub overflow_sub-more : goal.overflow_sub-more
@@ -48,7 +47,7 @@ overflow_add-taken c =
 pub loop-syntax-smaller : goal.loop-syntax-smaller
 loop-syntax-smaller c =
     let s = c.args.s.now in
-    let there = zero_there s c.landing-place.result (sym c.is_zero_at.ensures ∙ not-false _ c.if-not-is_zero_at.false-raw) in
+    let there = zero_there s c.landing-place.result (sym c.is_zero_at.ensures ∙ c.if-not-is_zero_at.false) in
     omega (arith, c.past_taken-at.ensures.1, c.landing-place.ensures.0, there.0)
 
 pub loop-syntax-preserved : goal.loop-syntax-preserved
@@ -56,12 +55,12 @@ unfolding reading_with
 loop-syntax-preserved c =
     let a = c.args in
     skipping_taken (reading_with a.syntax) a.s.now a.reader a.state c.requires.0 c.requires.1 c.loop-syntax.at c.loop-syntax.count c.loop-syntax.taken c.loop-syntax.passed c.landing-place.result c.loop-syntax.invariant
-    c.landing-place.ensures.0 (sym c.is_zero_at.ensures ∙ not-false _ c.if-not-is_zero_at.false-raw) _ c.past_taken-at.ensures.0
+    c.landing-place.ensures.0 (sym c.is_zero_at.ensures ∙ c.if-not-is_zero_at.false) _ c.past_taken-at.ensures.0
 
 pub returns : goal.returns
 unfolding reading_with
 returns c =
     let a = c.args in
-    rw (c.skip_answered.ensures, c.with_count-end.ensures, c.moved-stopped.ensures)
+    rw (c.new.ensures, c.with_count-end.ensures, c.moved-stopped.ensures)
     (skipping_over (reading_with a.syntax) a.s.now a.reader a.state c.requires.0 c.loop-syntax.at c.loop-syntax.count c.loop-syntax.taken c.loop-syntax.passed c.loop-syntax.invariant
-    c.landing-place.result c.landing-place.ensures.0 (sym c.is_zero_at.ensures ∙ not-true _ c.if-not-is_zero_at.true-raw))
+    c.landing-place.result c.landing-place.ensures.0 (sym c.is_zero_at.ensures ∙ c.if-not-is_zero_at.true))

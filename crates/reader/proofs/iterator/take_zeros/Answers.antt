@@ -1,7 +1,6 @@
 -- `reader::iterator::take_zeros` meets its contract: the loop's numbers are those of a list of reads of `0` (ZeroLoop), and
 -- each turn moves the place on. Assumes nothing.
 use Rattle.std.proofs.Common.{eqb, sym, ◌∙◌, arith}
-use borrow.Author.Tests.{not-true, not-false}
 use Rattle.reader.specs.Reading.{reading_with}
 use Rattle.reader.proofs.iterator.ZeroLoop.{plain_zero, skipping_starts, skipping_sums, skipping_room, skipping_on, skipping_by_one, skipping_over}
 use Rattle.reader.proofs.iterator.take_zeros.Goals as goal
@@ -62,25 +61,25 @@ overflow_add-passed c =
 pub overflow_add-at-in-loop-at : goal.overflow_add-at-in-loop-at
 overflow_add-at-in-loop-at c =
     let a = c.args in
-    let room = skipping_room (reading_with a.syntax) a.s.now a.reader a.state c.loop-at.at c.loop-at.count c.loop-at.taken c.loop-at.passed c.loop-at.invariant c.place_at-place.result (omega (arith, c.place_at-place.ensures.0)) (sym c.is_zero_at-in-loop-at.ensures ∙ not-false _ c.if-not-is_zero_at.false-raw) in
+    let room = skipping_room (reading_with a.syntax) a.s.now a.reader a.state c.loop-at.at c.loop-at.count c.loop-at.taken c.loop-at.passed c.loop-at.invariant c.place_at-place.result (omega (arith, c.place_at-place.ensures.0)) (sym c.is_zero_at-in-loop-at.ensures ∙ c.if-not-is_zero_at.false) in
     omega (arith, room.0)
 
 pub overflow_add-count-in-loop-at : goal.overflow_add-count-in-loop-at
 overflow_add-count-in-loop-at c =
     let a = c.args in
-    let room = skipping_room (reading_with a.syntax) a.s.now a.reader a.state c.loop-at.at c.loop-at.count c.loop-at.taken c.loop-at.passed c.loop-at.invariant c.place_at-place.result (omega (arith, c.place_at-place.ensures.0)) (sym c.is_zero_at-in-loop-at.ensures ∙ not-false _ c.if-not-is_zero_at.false-raw) in
+    let room = skipping_room (reading_with a.syntax) a.s.now a.reader a.state c.loop-at.at c.loop-at.count c.loop-at.taken c.loop-at.passed c.loop-at.invariant c.place_at-place.result (omega (arith, c.place_at-place.ensures.0)) (sym c.is_zero_at-in-loop-at.ensures ∙ c.if-not-is_zero_at.false) in
     omega (arith, room.1)
 
 pub overflow_add-taken-in-loop-at : goal.overflow_add-taken-in-loop-at
 overflow_add-taken-in-loop-at c =
     let a = c.args in
-    let room = skipping_room (reading_with a.syntax) a.s.now a.reader a.state c.loop-at.at c.loop-at.count c.loop-at.taken c.loop-at.passed c.loop-at.invariant c.place_at-place.result (omega (arith, c.place_at-place.ensures.0)) (sym c.is_zero_at-in-loop-at.ensures ∙ not-false _ c.if-not-is_zero_at.false-raw) in
+    let room = skipping_room (reading_with a.syntax) a.s.now a.reader a.state c.loop-at.at c.loop-at.count c.loop-at.taken c.loop-at.passed c.loop-at.invariant c.place_at-place.result (omega (arith, c.place_at-place.ensures.0)) (sym c.is_zero_at-in-loop-at.ensures ∙ c.if-not-is_zero_at.false) in
     omega (arith, room.2)
 
 pub loop-at-smaller : goal.loop-at-smaller
 loop-at-smaller c =
     let a = c.args in
-    let room = skipping_room (reading_with a.syntax) a.s.now a.reader a.state c.loop-at.at c.loop-at.count c.loop-at.taken c.loop-at.passed c.loop-at.invariant c.place_at-place.result (omega (arith, c.place_at-place.ensures.0)) (sym c.is_zero_at-in-loop-at.ensures ∙ not-false _ c.if-not-is_zero_at.false-raw) in
+    let room = skipping_room (reading_with a.syntax) a.s.now a.reader a.state c.loop-at.at c.loop-at.count c.loop-at.taken c.loop-at.passed c.loop-at.invariant c.place_at-place.result (omega (arith, c.place_at-place.ensures.0)) (sym c.is_zero_at-in-loop-at.ensures ∙ c.if-not-is_zero_at.false) in
     omega (arith, c.place_at-place.ensures.0, room.0)
 
 pub loop-at-preserved : goal.loop-at-preserved
@@ -88,12 +87,12 @@ unfolding reading_with
 loop-at-preserved c =
     let a = c.args in
     skipping_on (reading_with a.syntax) a.s.now a.reader a.state c.requires.0 c.loop-at.at c.loop-at.count c.loop-at.taken c.loop-at.passed c.loop-at.invariant
-    c.place_at-place.result c.place_at-place.ensures.0 (sym c.is_zero_at-in-loop-at.ensures ∙ not-false _ c.if-not-is_zero_at.false-raw)
+    c.place_at-place.result c.place_at-place.ensures.0 (sym c.is_zero_at-in-loop-at.ensures ∙ c.if-not-is_zero_at.false)
 
 pub returns : goal.returns
 unfolding reading_with
 returns c =
     let a = c.args in
-    rw (c.skip_answered.ensures, c.with_count-end.ensures, c.moved.ensures)
+    rw (c.new.ensures, c.with_count-end.ensures, c.moved.ensures)
     (skipping_over (reading_with a.syntax) a.s.now a.reader a.state c.requires.0 c.loop-at.at c.loop-at.count c.loop-at.taken c.loop-at.passed c.loop-at.invariant
-    c.place_at-place.result c.place_at-place.ensures.0 (sym c.is_zero_at-in-loop-at.ensures ∙ not-true _ c.if-not-is_zero_at.true-raw))
+    c.place_at-place.result c.place_at-place.ensures.0 (sym c.is_zero_at-in-loop-at.ensures ∙ c.if-not-is_zero_at.true))

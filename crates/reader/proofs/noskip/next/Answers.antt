@@ -1,16 +1,15 @@
 -- `reader::noskip::next` meets its contract. Assumes nothing.
-use Rattle.reader.proofs.noskip.Cases.{past_end, on_byte, at_end}
-use Rattle.reader.specs.Plain.{plain_next_of}
+use Rattle.std.proofs.Common.{arith}
+use Rattle.reader.proofs.noskip.Cases.{room, taken}
 use Rattle.reader.proofs.noskip.next.Goals as goal
 
-pub returns-then-s-at : goal.returns-then-s-at
-unfolding plain_next_of
-returns-then-s-at c = let a = c.args in rw (past_end a.s.now a.cursor.cursor c.if-s-at.true)
-
-pub returns-then-at-s : goal.returns-then-at-s
-unfolding plain_next_of
-returns-then-at-s c = let a = c.args in rw (on_byte a.s.now a.cursor.cursor c.if-at-s.true)
+pub overflow_add-past : goal.overflow_add-past
+overflow_add-past c =
+    let a = c.args in
+    let fits = room a.s.now a.cursor.cursor c.see-found.result c.see-found.ensures in
+    omega (arith, fits, c.taken_of-taken.ensures)
 
 pub returns : goal.returns
-unfolding plain_next_of
-returns c = let a = c.args in rw (at_end a.s.now a.cursor.cursor c.if-s-at.false c.if-at-s.false)
+returns c =
+    let a = c.args in
+    rw c.taken_of-taken.ensures (taken a.s.now a.cursor.cursor c.see-found.result c.see-found.ensures)

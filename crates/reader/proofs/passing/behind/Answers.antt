@@ -4,14 +4,14 @@ use Rattle.std.proofs.Common.{suc, add-one, rules}
 use Rattle.reader.proofs.passing.Places.{run_byte, run_over}
 use Rattle.reader.proofs.passing.behind.Goals as goal
 
-pub returns-then-syntax : goal.returns-then-syntax
-returns-then-syntax c =
+pub returns-then-separated : goal.returns-then-separated
+returns-then-separated c =
     let a = c.args in
     let p = c.requires in (
-      rw (c.if-syntax.true, c.run_end.ensures.0, ← run_over a.syntax.separator a.s.now a.at p.1 p.0 p.2, add-one) (run_byte a.syntax.separator a.s.now (suc a.at)),
-      rw c.if-syntax.true c.run_end.ensures.0,
+      rw (c.if-separated.true, c.run_end.ensures.0, ← run_over a.separated.separator.value a.s.now a.at p.0 a.separated.separator.ok p.1, add-one) (run_byte a.separated.separator.value a.s.now (suc a.at)),
+      rw c.if-separated.true c.run_end.ensures.0,
       c.run_end.ensures.1,
     )
 
 pub returns : goal.returns
-returns c = (rw (c.if-syntax.false, add-one), rw c.if-syntax.false, search rules)
+returns c = (rw (c.if-separated.false, add-one), rw c.if-separated.false, search rules)

@@ -7,7 +7,8 @@ pub loop-i-init : goal.loop-i-init
 loop-i-init c = search_starts _ _ _ _ (omega arith) (omega arith) (omega arith)
 
 pub returns-then-s-i : goal.returns-then-s-i
-returns-then-s-i c = search_finds _ _ _ _ (omega arith) c.loop-i.invariant (omega arith) c.if-s-i.true
+returns-then-s-i c =
+    rw (← c.get-byte.ensures.value) (search_finds _ _ _ _ (omega arith) c.loop-i.invariant (omega arith) c.if-s-i.true)
 
 pub loop-i-smaller : goal.loop-i-smaller
 loop-i-smaller c = omega arith
@@ -18,4 +19,5 @@ loop-i-preserved c =
     search_goes_on _ _ _ _ (omega arith) here _ (omega arith) (omega arith) c.if-s-i.false c.index_before-i-in-loop-i.ensures
 
 pub returns : goal.returns
-returns c = search_ends _ _ _ _ (omega arith) c.loop-i.invariant (omega arith)
+returns c =
+    rw (← c.get-byte.ensures.value) (search_ends _ _ _ _ (omega arith) c.loop-i.invariant (omega arith))

@@ -1,43 +1,19 @@
--- `reader::search::eight_steps` meets its contract: each step is one of width eight (RunSteps). Assumes nothing.
-use Rattle.std.proofs.Common.{arith}
-use Rattle.reader.proofs.search.Numbers.{equal_as_digits}
-use Rattle.reader.proofs.search.RunSteps.{stepping_starts, stepping_on, stops_on_other, stops_near_end}
+-- `reader::search::eight_steps` meets its contract: a chunk is a part of width eight (Parts). Assumes nothing.
+use Rattle.std.proofs.Common.{◌≡◌, ◌/◌, ◌∙◌, length, replicate, arith, rules}
+use Rattle.std.proofs.lemmas.Iterator.{IsFirst-from_position, YieldsList-from_slice}
+use Rattle.reader.specs.Place.{separator_run}
+use Rattle.reader.proofs.passing.Passed.{run_fits}
+use Rattle.reader.proofs.search.Parts.{found_in, chunks_told, same_told, other_told}
 use Rattle.reader.proofs.search.eight_steps.Goals as goal
 
-pub loop-place-init : goal.loop-place-init
-loop-place-init c = stepping_starts _ _ 8 _ c.requires.1
-
-pub overflow_sub-s : goal.overflow_sub-s
-overflow_sub-s c = omega (arith, c.loop-place.invariant.inside)
-
-pub eight_at-here-requires : goal.eight_at-here-requires
-eight_at-here-requires c = omega (arith, c.loop-place.invariant.inside)
-
-pub returns-then-here-all : goal.returns-then-here-all
-returns-then-here-all c =
-    let told = equal_as_digits 256 8 _ _ _ _ c.eight_at-here.ensures c.eight_times-all.ensures in (
-      stops_on_other _ _ _ _ _ _ c.loop-place.invariant (omega arith) (λ same. c.if-here-all.true (told.1 same)),
-      c.loop-place.invariant.stands,
-      c.loop-place.invariant.inside,
-    )
-
-pub overflow_add-place : goal.overflow_add-place
-overflow_add-place c = omega (arith, c.loop-place.invariant.inside)
-
-pub overflow_add-steps : goal.overflow_add-steps
-overflow_add-steps c = let i = c.loop-place.invariant in omega (arith, i.stands, i.inside)
-
-pub loop-place-smaller : goal.loop-place-smaller
-loop-place-smaller c = omega (arith, c.loop-place.invariant.inside)
-
-pub loop-place-preserved : goal.loop-place-preserved
-loop-place-preserved c =
-    let told = equal_as_digits 256 8 _ _ _ _ c.eight_at-here.ensures c.eight_times-all.ensures in
-    stepping_on _ _ _ _ _ _ c.loop-place.invariant c.requires.0 (omega (arith, c.loop-place.invariant.inside)) (told.0 c.if-here-all.false)
-
 pub returns : goal.returns
-returns c = (
-  stops_near_end _ _ _ _ _ _ c.loop-place.invariant (omega arith) (omega arith),
-  c.loop-place.invariant.stands,
-  c.loop-place.invariant.inside,
-)
+returns c =
+    let s = c.args.s.now in
+    let separator = c.get-byte.result in
+    let all = replicate 8 separator in
+    let chunks = c.as_chunks.ensures in
+    let first = IsFirst-from_position _ _ _ (λ x. x ≡ all → ⊥) (λ x. x ≡ all) c.position-found.ensures.ran (YieldsList-from_slice _ c.iter.ensures.rest) (λ x q k. search (rules, other_told)) (λ x q k. search (rules, same_told)) in
+    let told = chunks_told separator s 8 (length s / 8) _ _ chunks.front chunks.front_len first in
+    let count : c.unwrap_or.result ≡ separator_run separator s / 8 =
+    c.unwrap_or.ensures ∙ rw chunks.front_len (found_in separator s 8 (length s / 8) _ c.get-byte.ensures.nonzero (omega arith) (omega arith) (omega arith) told) in
+    rw (← c.get-byte.ensures.value) (count, omega (arith, run_fits separator s))

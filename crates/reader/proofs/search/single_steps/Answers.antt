@@ -1,32 +1,16 @@
--- `reader::search::single_steps` meets its contract: each step is one of width one (RunSteps). Assumes nothing.
-use Rattle.std.proofs.Common.{◌∙◌, div-one, arith}
-use Rattle.reader.proofs.search.RunSteps.{stepping_starts, stepping_on, stops_on_other, stops_near_end, one_separator, one_other}
+-- `reader::search::single_steps` meets its contract: a byte is a part of width one (Parts). Assumes nothing.
+use Rattle.std.proofs.Common.{◌≡◌, ◌∙◌, length, div-one, arith, rules, tests}
+use Rattle.std.proofs.lemmas.Iterator.{IsFirst-from_position, YieldsList-from_slice}
+use Rattle.reader.specs.Place.{separator_run}
+use Rattle.reader.proofs.passing.Passed.{run_fits}
+use Rattle.reader.proofs.search.Parts.{found_in, bytes_told}
 use Rattle.reader.proofs.search.single_steps.Goals as goal
-
-pub loop-place-init : goal.loop-place-init
-loop-place-init c = stepping_starts _ _ 1 _ c.requires.1
-
-pub returns-then-s-place : goal.returns-then-s-place
-returns-then-s-place c =
-    let a = c.args in
-    let i = c.loop-place.invariant in (
-      stops_on_other _ _ _ _ _ _ i (omega arith) (one_other a.separator a.s.now c.loop-place.place (omega arith) c.if-s-place.true) ∙ div-one _,
-      omega (arith, i.stands),
-      i.inside,
-    )
-
-pub overflow_add-ones : goal.overflow_add-ones
-overflow_add-ones c = omega (arith, c.loop-place.invariant.stands)
-
-pub loop-place-preserved : goal.loop-place-preserved
-loop-place-preserved c =
-    let a = c.args in
-    stepping_on _ _ _ _ _ _ c.loop-place.invariant c.requires.0 (omega arith) (one_separator a.separator a.s.now c.loop-place.place (omega arith) c.if-s-place.false)
 
 pub returns : goal.returns
 returns c =
-    let i = c.loop-place.invariant in (
-      stops_near_end _ _ _ _ _ _ i (omega arith) (omega arith) ∙ div-one _,
-      omega (arith, i.stands),
-      i.inside,
-    )
+    let s = c.args.s.now in
+    let separator = c.get-byte.result in
+    let first = IsFirst-from_position _ _ _ (λ x. x ≡ separator → ⊥) (λ x. x ≡ separator) c.position-found.ensures.ran (YieldsList-from_slice s c.iter.ensures.rest) (λ x q k. search (rules, tests)) (λ x q k. search (rules, tests)) in
+    let count : c.unwrap_or.result ≡ separator_run separator s =
+    c.unwrap_or.ensures ∙ found_in separator s 1 (length s) _ c.get-byte.ensures.nonzero (omega arith) (omega arith) (omega arith) (bytes_told separator s _ first) ∙ div-one _ in
+    rw (← c.get-byte.ensures.value) (count, omega (arith, run_fits separator s))

@@ -3,7 +3,7 @@ use Rattle.std.proofs.Common.{sym}
 use Rattle.reader.proofs.skip.block_from.Goals as goal
 
 pub returns-then-has_any : goal.returns-then-has_any
-returns-then-has_any c = rw (c.block_answered.ensures, sym c.has_any.ensures, c.if-has_any.true)
+returns-then-has_any c = rw (c.new.ensures, sym c.has_any.ensures, c.if-has_any.true)
 
 pub returns : goal.returns
-returns c = rw (c.block_answered-2.ensures, c.moved.ensures, c.bytes_left-taken.ensures, sym c.has_any.ensures, c.if-has_any.false)
+returns c = rw (c.new-2.ensures, c.moved.ensures, c.bytes_left-taken.ensures, sym c.has_any.ensures, c.if-has_any.false)

@@ -16,5 +16,5 @@ pub returns : goal.returns
 unfolding reading_with
 returns c =
     let a = c.args in
-    rw (c.answered.ensures, c.with_count-end.ensures, c.moved.ensures, c.take_run-run.ensures.sums, c.count.ensures, c.counts_digits-counts.ensures)
+    rw (c.new.ensures, c.with_count-end.ensures, c.moved.ensures, c.take_run-run.ensures.sums, c.count.ensures, c.counts_digits-counts.ensures)
     (sums_are_takes (reading_with a.syntax) a.s.now a.reader a.state c.requires)

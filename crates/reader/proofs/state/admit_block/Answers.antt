@@ -1,8 +1,15 @@
 -- `reader::state::admit_block` meets its contract, test by test. Assumes nothing.
-use Rattle.word.proofs.Lines.{line_first}
-use Rattle.reader.specs.Block.{block_refusal}
+use Rattle.std.proofs.Common.{sym, ap, ◌∙◌}
+use Rattle.reader.specs.Answer.{refusal_in}
+use Rattle.reader.proofs.state.Refusals.{passed_on, no_place_for_block, then_reader}
 use Rattle.reader.proofs.state.admit_block.Goals as goal
 
+pub returns-in_err-admit_place : goal.returns-in_err-admit_place
+returns-in_err-admit_place c =
+    let a = c.args in
+    ap refusal_in (passed_on _ _ c.from_residual.ensures.1) ∙ no_place_for_block a.s.now a.state a.reader _ c.in_err-admit_place.ensures
+
 pub returns : goal.returns
-unfolding block_refusal
-returns c = rw (c.after_place.ensures, c.after_reader.ensures, line_first 15, line_first 16, line_first 17)
+returns c =
+    let a = c.args in
+    then_reader a.s.now a.state a.reader (sym c.in_ok-admit_place.ensures) _ c.admit_reader.ensures

@@ -5,22 +5,21 @@ use Rattle.script.specs.Reply.{outcome_reply, skip_reply, block_reply, reply_of}
 use Rattle.script.proofs.call.reply_to.Goals as goal
 
 pub returns-in-Peek : goal.returns-in-Peek
-unfolding reply_of
-returns-in-Peek c =
-    c.seen_reply.ensures ∙ ap outcome_reply (c.answer.ensures ∙ c.peek.ensures) ∙ rw c.in-Peek.is
+unfolding reply_of outcome_reply
+returns-in-Peek c = c.replied.ensures ∙ ap outcome_reply c.peek.ensures ∙ rw c.in-Peek.is
 
 pub returns-in-Take : goal.returns-in-Take
-unfolding reply_of
-returns-in-Take c = c.seen_reply-in-Take.ensures ∙ ap outcome_reply c.next.ensures ∙ rw c.in-Take.is
+unfolding reply_of outcome_reply
+returns-in-Take c = c.replied-in-Take.ensures ∙ ap outcome_reply c.next.ensures ∙ rw c.in-Take.is
 
 pub returns-in-Read : goal.returns-in-Read
-unfolding reply_of
-returns-in-Read c = c.read_reply.ensures ∙ ap (λ (o : ReadOutcome). outcome_reply o.outcome) c.read_if_value_cased.ensures ∙ rw c.in-Read.is
+unfolding reply_of outcome_reply
+returns-in-Read c = c.replied-in-Read.ensures ∙ ap (λ (o : ReadOutcome). outcome_reply o.outcome) c.read_if_value_cased.ensures ∙ rw c.in-Read.is
 
 pub returns-in-ZeroSkip : goal.returns-in-ZeroSkip
-unfolding reply_of
-returns-in-ZeroSkip c = c.skip_reply.ensures ∙ ap skip_reply c.skip_zeros.ensures ∙ rw c.in-ZeroSkip.is
+unfolding reply_of skip_reply
+returns-in-ZeroSkip c = c.replied-in-ZeroSkip.ensures ∙ ap skip_reply c.skip_zeros.ensures ∙ rw c.in-ZeroSkip.is
 
 pub returns-in-Block : goal.returns-in-Block
-unfolding reply_of
-returns-in-Block c = c.block_reply.ensures ∙ ap block_reply c.take_n.ensures ∙ rw c.in-Block.is
+unfolding reply_of block_reply
+returns-in-Block c = c.replied-in-Block.ensures ∙ ap block_reply c.take_n.ensures ∙ rw c.in-Block.is

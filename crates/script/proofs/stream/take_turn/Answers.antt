@@ -6,7 +6,5 @@ pub returns : goal.returns
 returns c =
     let a = c.answer-progress in
     let k = c.keep_tail-kept in
-    let x = c.args.start in record {
-      text = a.ensures.kept.0;
-      turns = turned c.args.text.now c.args.buffer.now x.stage x.filled x.ended a.new.text k.new.buffer a.new.out a.result k.result c.next_of-next.result c.requires.1 a.ensures.answers a.ensures.far c.next_of-next.ensures k.ensures.kept.0 k.ensures.kept.1 k.ensures.bytes;
-    }
+    let x = c.args.start in
+    turned c.args.text.now c.args.buffer.now x.stage x.filled x.ended a.new.text k.new.buffer a.new.out a.result k.result c.next_of-next.result c.requires a.ensures.answers a.ensures.far c.next_of-next.ensures k.ensures.kept.0 k.ensures.kept.1 k.ensures.bytes

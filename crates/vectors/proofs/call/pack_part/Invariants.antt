@@ -1,12 +1,7 @@
-use Prim.Native.Nat.{◌≤◌, ◌-◌}
-use mathlib.Core.Path.{◌≡◌}
-use lib.ListN.{length, drop}
-use Rattle.vectors.specs.Call.{bytes_behind}
+use Rattle.std.proofs.Common.{◌≤◌, ◌≡◌, length, drop}
+use Rattle.vectors.specs.Call.{bytes_behind, packed_part}
 use Rattle.vectors.proofs.call.pack_part.Given as goal
 
-abbrev pub invariant-loop-i : goal.invariant-loop-i
-invariant-loop-i l =
-    (l.i ≤ length l.part) × (bytes_behind l.packed (drop l.i l.part) ≡ bytes_behind (length l.part) l.part)
-
-abbrev pub decreases-loop-i : goal.decreases-loop-i
-decreases-loop-i l = length l.part - l.i
+abbrev pub invariant-loop-byte : goal.invariant-loop-byte
+invariant-loop-byte l =
+    (l.byte-index ≤ length l.part) × (bytes_behind l.packed (drop l.byte-index l.part) ≡ packed_part l.part)

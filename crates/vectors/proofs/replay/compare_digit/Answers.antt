@@ -1,7 +1,5 @@
 -- `vectors::replay::compare_digit` meets its contract. Assumes nothing.
-use Prim.Native.Nat.{◌^◌}
-use mathlib.Core.Path.{◌∙◌, ap}
-use native.Mathlib.Omega.{arith}
+use Rattle.std.proofs.Common.{◌≡◌, ◌∙◌, ap, ◌≤◌, ◌<◌, ◌^◌, arith}
 use borrow.Author.Tests.{eq-eqb, ne_eqb, lt-ltb, le-ltb}
 use Rattle.vectors.specs.declared.replay.Answer.TheVariants.{Digit}
 use Rattle.vectors.specs.Replay.{value, verdict, digit_verdict}
@@ -11,29 +9,28 @@ pub returns-then-parsed-ne-DIGIT_SHAPE : goal.returns-then-parsed-ne-DIGIT_SHAPE
 unfolding digit_verdict
 returns-then-parsed-ne-DIGIT_SHAPE c = rw (ne_eqb _ _ c.if-parsed-ne-DIGIT_SHAPE.true)
 
-pub returns-then-byte-gt255 : goal.returns-then-byte-gt255
+pub returns-in_default : goal.returns-in_default
 unfolding digit_verdict
-returns-then-byte-gt255 c =
+returns-in_default c =
     let p = c.args.parsed in
-    rw (eq-eqb _ _ c.if-parsed-ne-DIGIT_SHAPE.false, le-ltb (value p 0) (2 ^ 8) (omega arith))
+    let large : 2 ^ 8 ≤ value p 0 = grind arith in
+    rw (eq-eqb _ _ c.if-parsed-ne-DIGIT_SHAPE.false, le-ltb (value p 0) (2 ^ 8) large)
 
-pub returns-then-radix-gt4294967295 : goal.returns-then-radix-gt4294967295
+pub returns-in_default-try_from : goal.returns-in_default-try_from
 unfolding digit_verdict
-returns-then-radix-gt4294967295 c =
+returns-in_default-try_from c =
     let p = c.args.parsed in
-    rw (
-      eq-eqb _ _ c.if-parsed-ne-DIGIT_SHAPE.false,
-      lt-ltb (value p 0) (2 ^ 8) (omega arith),
-      le-ltb (value p 1) (2 ^ 32) (omega arith),
-    )
+    let small : value p 0 < 2 ^ 8 = grind arith in
+    let large : 2 ^ 32 ≤ value p 1 = grind arith in
+    rw (eq-eqb _ _ c.if-parsed-ne-DIGIT_SHAPE.false, lt-ltb (value p 0) (2 ^ 8) small, le-ltb (value p 1) (2 ^ 32) large)
 
 pub returns : goal.returns
 unfolding digit_verdict
 returns c =
     let p = c.args.parsed in
-    rw (
-      eq-eqb _ _ c.if-parsed-ne-DIGIT_SHAPE.false,
-      lt-ltb (value p 0) (2 ^ 8) (omega arith),
-      lt-ltb (value p 1) (2 ^ 32) (omega arith),
-    )
-    (c.settle.ensures ∙ ap (verdict Digit (value p 2)) c.digit_answer.ensures)
+    let small : value p 0 < 2 ^ 8 = grind arith in
+    let few : value p 1 < 2 ^ 32 = grind arith in
+    let byte : c.in-Ok.byte ≡ value p 0 = grind arith in
+    let radix : c.in-Ok-try_from.radix ≡ value p 1 = grind arith in
+    rw (eq-eqb _ _ c.if-parsed-ne-DIGIT_SHAPE.false, lt-ltb (value p 0) (2 ^ 8) small, lt-ltb (value p 1) (2 ^ 32) few)
+    (c.settle.ensures ∙ ap (verdict Digit (value p 2)) (rw (byte, radix) at c.digit_answer.ensures))

@@ -5,4 +5,4 @@ use Rattle.word.proofs.digit.char_is_digit_const.Goals as goal
 pub returns : goal.returns
 returns c =
     let a = c.args in
-    rw (c.wide.ensures, c.entry_of.ensures) (digit_told a.c a.radix)
+    rw (c.from.ensures, c.entry_of.ensures) (digit_told a.c a.radix)

@@ -5,4 +5,4 @@ use Rattle.word.proofs.digit.entry_of.Goals as goal
 
 pub returns : goal.returns
 returns c =
-    rw (c.bits_at.ensures, c.row_of.ensures, c.wide-byte.ensures) (row_told c.args.c (search rules))
+    rw (c.bits_at.ensures, c.row_of.ensures, c.from-byte.ensures) (row_told c.args.c (search rules))

@@ -5,4 +5,4 @@ use Rattle.word.proofs.byte_set.ByteSet.contains.Goals as goal
 
 pub returns : goal.returns
 unfolding member bit
-returns c = rw c.bits_at.ensures
+returns c = rw (c.bits_at.ensures, c.from.ensures, c.from-2.ensures)

@@ -9,4 +9,4 @@ pub returns : goal.returns
 unfolding member
 returns c x h =
     let a = c.args in
-    rw (one_shifted (a.b % 64) (search rules)) (inserted a.self.bits a.b x (search rules) (search rules))
+    rw (c.from.ensures, one_shifted (a.b % 64) (search rules)) (inserted a.self.bits a.b x (search rules) (search rules))

@@ -1,2 +1,0 @@
--- The listing, an entry at a time.
-mod Rows

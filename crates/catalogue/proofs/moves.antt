@@ -1,2 +1,0 @@
--- One word more that has moved.
-mod Steps

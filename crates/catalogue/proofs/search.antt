@@ -1,2 +1,0 @@
--- Twice as many entries at a time.
-mod Widths

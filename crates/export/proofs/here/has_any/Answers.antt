@@ -1,5 +1,0 @@
--- `export::here::has_any` meets its contract. Assumes nothing.
-use Rattle.export.proofs.here.has_any.Goals as goal
-
-pub returns : goal.returns
-returns c = rw (c.bit_at-4.ensures, c.bit_at-3.ensures, c.bit_at-2.ensures, c.bit_at.ensures)

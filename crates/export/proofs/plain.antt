@@ -1,0 +1,2 @@
+-- Laws of the plain reader's words (src/plain.rt).
+mod Words

@@ -1,0 +1,18 @@
+-- `first` of what a peek or a take saw meets its contract. Assumes nothing.
+use Rattle.std.specs.Prelude.{Ok}
+use Rattle.std.proofs.Common.{◌∙◌, ap}
+use Rattle.vectors.proofs.call.PackedAnswers.{refused_first}
+use Rattle.vectors.proofs.call.SeenBegins.first.Goals as goal
+
+pub returns-in-Ok-Some : goal.returns-in-Ok-Some
+returns-in-Ok-Some c =
+    let known = c.in-Ok-Some.is ∙ ap Ok (rw c.in-Ok-Some.is at c.in-Ok-Some.field-0-is) in
+    rw known (rw c.from.ensures at c.pushed.ensures)
+
+pub returns-in-Ok-None : goal.returns-in-Ok-None
+returns-in-Ok-None c =
+    let known = c.in-Ok-None.is ∙ ap Ok (rw c.in-Ok-None.is at c.in-Ok-None.field-0-is) in
+    rw known
+
+pub returns-in-Err : goal.returns-in-Err
+returns-in-Err c = rw (c.pushed-in-Err.ensures, c.number.ensures, c.in-Err.is) (refused_first c.in-Err.refusal 0)

@@ -1,7 +1,0 @@
--- `word::format_flags::is_valid_control_at` meets its contract. Assumes nothing.
-use Rattle.word.specs.Check.{valid_control}
-use Rattle.word.proofs.format_flags.is_valid_control_at.Goals as goal
-
-pub returns : goal.returns
-unfolding valid_control
-returns c = rw (c.is_valid_optional_control_radix.ensures, c.byte_at.ensures, c.larger_radix.ensures)
