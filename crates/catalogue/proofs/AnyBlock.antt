@@ -1,13 +1,6 @@
 -- What holds of a catalogue made otherwise, whose answers document 02 leaves free: behind any act there are 64 places again, how many are listed
 -- and the tally stay within 64 or what they were. Assumes nothing.
-use mathlib.Core.Path.{◌≡◌, ◌∙◌, refl}
-use mathlib.Core.Bool.{Bool, true, false, cond}
-use mathlib.Core.List.{◌∷◌}
-use Prim.Native.Nat.{ℕ, suc, ◌+◌, ◌≤◌, max}
-use native.Mathlib.Omega.{arith}
-use borrow.Author.Tests.{ltb-true}
-use lib.Dec.{ltb}
-use lib.ListN.{length, drop, length-append, length-drop, length-take}
+use Rattle.std.proofs.Common.{◌≡◌, ℕ, suc, ◌+◌, ◌≤◌, max, Bool, true, false, cond, ltb, ◌∷◌, length, drop, refl, ◌∙◌, arith, length-append, length-drop, length-take, ltb-true}
 use Rattle.catalogue.specs.Entries.{entry_of, inserted, without, uses}
 use Rattle.catalogue.specs.Catalogue.{Catalogue, no_entry, listing, size, raised}
 use Rattle.catalogue.specs.Acts.{Act, after}

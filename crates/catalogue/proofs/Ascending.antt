@@ -1,12 +1,6 @@
 -- Entries that ascend by school number, and what is looked up in them behind an addition and a removal. Assumes nothing.
-use mathlib.Core.Path.{◌≡◌, ◌∙◌, refl, sym, ap}
-use mathlib.Core.Bool.{Bool, true, false, cond}
-use mathlib.Core.List.{List, [], ◌∷◌}
-use Rattle.std.specs.Prelude.{None, Some, slice_get}
-use Prim.Native.Nat.{ℕ, zero, suc, ◌≤◌, ◌<◌}
-use native.Mathlib.Omega.{arith}
-use borrow.Author.Tests.{eqb-true, eqb-false, ltb-true, ltb-false, eq-eqb, ne_eqb, lt-ltb, le-ltb}
-use lib.Dec.{eqb, ltb}
+use Rattle.std.proofs.Common.{◌≡◌, ℕ, zero, suc, ◌<◌, ◌≤◌, Bool, true, false, cond, eqb, ltb, List, [], ◌∷◌, slice_get, Some, None, sym, refl, ap, ◌∙◌, arith, ltb-false, ltb-true, le-ltb, lt-ltb, eq-eqb, ne_eqb, eqb-true}
+use borrow.Author.Tests.{eqb-false}
 use Rattle.word.specs.declared.format_flags.Format.{Format}
 use Rattle.catalogue.specs.declared.entries.Entry.{Entry}
 use Rattle.catalogue.specs.Entries.{entry_of, look_up, inserted, without}
@@ -54,7 +48,7 @@ ascends_inserted e (x ∷ l) new up = by_order x.school e.school (smaller (ascen
   smaller rest t = rw t (above_inserted x.school e l (ltb-true x.school e.school t) up.0, rest (rw t at new) up.1)
 
   same : ltb x.school e.school ≡ false → eqb x.school e.school ≡ true → Ascending (inserted e (x ∷ l))
-  same t u = absurd (let found : Some x.format ≡ None = rw (t, u) at new in let z : ◌≡◌ {A = ℕ} 0 1 = cc in omega (arith, z))
+  same t u = absurd (let found : Some x.format ≡ None = rw (t, u) at new in cc)
 
   larger : ltb x.school e.school ≡ false → eqb x.school e.school ≡ false → Ascending (inserted e (x ∷ l))
   larger t u =
@@ -163,4 +157,4 @@ looks_row n f (x ∷ l) found = by_order x.school n (smaller (looks_row n f l)) 
       (0, ap Some (ap (λ (k : ℕ). entry_of k x.format) (eqb-true x.school n u) ∙ ap (entry_of n) is))
 
   larger : ltb x.school n ≡ false → eqb x.school n ≡ false → (i : ℕ) × (slice_get (x ∷ l) i ≡ Some (entry_of n f))
-  larger t u = absurd (let none_there : None ≡ Some f = rw (t, u) at found in let z : ◌≡◌ {A = ℕ} 0 1 = cc in omega (arith, z))
+  larger t u = absurd (let none_there : None ≡ Some f = rw (t, u) at found in cc)

@@ -1,13 +1,7 @@
 -- DEMAND 1 of a catalogue, for every catalogue, made from an empty one or otherwise, and every act: it is accepted, or told by one of its
 -- numbers, for its own fault, and the catalogue is left as it was. Assumes nothing.
-use mathlib.Core.Path.{◌≡◌, ◌∙◌, refl, sym}
-use mathlib.Core.Logic.{◌⊎◌, inl, inr}
-use mathlib.Core.Bool.{Bool, true, false}
-use Rattle.std.specs.Prelude.{is_some}
-use Prim.Native.Nat.{ℕ, ◌<◌}
-use native.Mathlib.Omega.{arith}
-use borrow.Author.Tests.{eqb-true, eqb-false, ltb-true, ltb-false}
-use lib.Dec.{eqb, ltb}
+use Rattle.std.proofs.Common.{◌≡◌, ℕ, ◌<◌, Bool, true, false, eqb, ltb, ◌⊎◌, is_some, sym, refl, ◌∙◌, inl, inr, arith, ltb-false, ltb-true, eqb-true}
+use borrow.Author.Tests.{eqb-false}
 use Rattle.word.specs.declared.format_flags.Format.{Format}
 use Rattle.word.specs.Check.{full_check}
 use Rattle.catalogue.specs.Catalogue.{Catalogue, size, word_in, add_number, remove_number}

@@ -1,7 +1,5 @@
 -- Acts on a catalogue worked out from the definitions, by computation. Assumes nothing.
-use mathlib.Core.Path.{◌≡◌, refl}
-use mathlib.Core.List.{List, [], ◌∷◌, map}
-use Prim.Native.Nat.{ℕ, zero, suc, ◌+◌}
+use Rattle.std.proofs.Common.{◌≡◌, ℕ, zero, suc, ◌+◌, List, [], ◌∷◌, map, refl}
 use Rattle.word.specs.declared.format_flags.Format.{Format}
 use Rattle.word.specs.Bits.{bit}
 use Rattle.word.specs.Word.{word, field, flag, radix_at}

@@ -1,14 +1,6 @@
 -- What holds of the catalogue behind every list of additions and removals from an empty one: an act at a time. Assumes nothing.
-use mathlib.Core.Path.{◌≡◌, ◌∙◌, refl, ap}
-use mathlib.Core.Bool.{Bool, true, false, cond}
-use mathlib.Core.List.{List, [], ◌∷◌}
-use Rattle.std.specs.Prelude.{None, Option, Some, is_some}
-use Prim.Native.Nat.{ℕ, suc, ◌+◌, ◌-◌, ◌≤◌, ◌<◌}
-use native.Mathlib.Omega.{arith}
-use borrow.Author.Tests.{eqb-true, eqb-false, lt-ltb}
-use lib.Dec.{eqb}
-use lib.ListN.{length, drop, length-append, length-drop}
-use lib.Seq.{take_at, length-take-le}
+use Rattle.std.proofs.Common.{◌≡◌, ℕ, suc, ◌+◌, ◌-◌, ◌<◌, ◌≤◌, Bool, true, false, cond, eqb, List, [], ◌∷◌, length, drop, is_some, Some, None, Option, refl, ap, ◌∙◌, arith, length-append, length-drop, length-take-le, take_at, lt-ltb, eqb-true}
+use borrow.Author.Tests.{eqb-false}
 use Rattle.word.specs.declared.format_flags.Format.{Format}
 use Rattle.word.specs.Word.{digit_separator}
 use Rattle.catalogue.specs.declared.entries.Entry.{Entry}

@@ -1,14 +1,6 @@
 -- THE LAW OF ANY WEIGHT: whatever is summed over the entries, an entry that is put in adds its weight, and one that is taken out takes it away.
 -- The kept tally is one such sum; how often an entry is listed is another. Assumes nothing.
-use mathlib.Core.Path.{◌≡◌, ◌∙◌, refl, ap}
-use mathlib.Core.Bool.{Bool, true, false, cond}
-use mathlib.Core.List.{List, [], ◌∷◌}
-use Rattle.std.specs.Prelude.{None, Some}
-use Prim.Native.Nat.{ℕ, ◌+◌, ◌≤◌}
-use native.Mathlib.Omega.{arith}
-use borrow.Author.Tests.{eqb-true}
-use lib.Dec.{eqb, ltb}
-use lib.ListN.{length}
+use Rattle.std.proofs.Common.{◌≡◌, ℕ, ◌+◌, ◌≤◌, Bool, true, false, cond, eqb, ltb, List, [], ◌∷◌, length, Some, None, refl, ap, ◌∙◌, arith, eqb-true}
 use Rattle.word.specs.declared.format_flags.Format.{Format}
 use Rattle.catalogue.specs.declared.entries.Entry.{Entry}
 use Rattle.catalogue.specs.Entries.{entry_of, look_up, inserted, without, sum_of}

@@ -1,4 +1,3 @@
--- A catalogue and its words (Words), a part of a list (Parts), the place of a school's entry (Place).
-pub mod Parts
+-- A catalogue and its words (Words), the place of a school's entry (Place).
 pub mod Words
 pub mod Place

@@ -1,6 +1,5 @@
 // Additions and removals, in a catalogue that the caller lends.
-ghost use Rattle.std.specs.Prelude.{◌≡◌, ◌≢◌, ◌<◌, ◌≤◌, MatchResult};
-ghost use Rattle.word.specs.Error.{number_of};
+ghost use Rattle.std.specs.Prelude.{◌≡◌, ◌<◌, ◌≤◌};
 ghost use Rattle.word.specs.Check.{full_check};
 ghost use Rattle.catalogue.specs.Entries.{uses};
 ghost use Rattle.catalogue.specs.Catalogue.{size, raised, with_entry, add_number, added, remove_number, removed, answer_number};
@@ -10,7 +9,6 @@ ghost use Rattle.catalogue.specs.Code.Search.{StandsAt, BelongsAt};
 use crate::entries::{Entry, entry_at, listed, put_entry};
 use crate::error::CatalogueError;
 use crate::search::seek;
-use word::error::Error;
 use word::format_flags::Format;
 
 // What a sheet adds to the tally.
@@ -66,18 +64,6 @@ fn take_out(words: &mut [u64; 194], at: usize, school: u64)
     words[1] = tally;
 }
 
-// The full check, as a result.
-fn checked(format: Format) -> Result<(), Error>
-    ensures { MatchResult result (λ _. full_check format ≡ 0) (λ e. (number_of e ≡ full_check format) × (full_check format ≢ 0)) }
-{
-    let error = format.error();
-    if error.is_success() {
-        Ok(())
-    } else {
-        Err(error)
-    }
-}
-
 // An addition whose word has passed the check.
 fn add_checked(words: &mut [u64; 194], school: u64, format: Format) -> Result<(), CatalogueError>
     requires { full_check format ≡ 0 }
@@ -106,11 +92,11 @@ pub fn add(words: &mut [u64; 194], school: u16, format: Format) -> Result<(), Ca
     ensures number { answer_number result ≡ add_number (catalogue_in words.old) school format }
     ensures written { words.new ≡ words_of (added (catalogue_in words.old) school format) }
 {
-    checked(format)?;
+    format.check()?;
     add_checked(words, u64::from(school), format)
 }
 
-// Removes a school.
+// Removes a school. A match, as in the look-up: the search says of each case what is removed.
 pub fn remove(words: &mut [u64; 194], school: u16) -> Result<(), CatalogueError>
     ensures number { answer_number result ≡ remove_number (catalogue_in words.old) school }
     ensures written { words.new ≡ words_of (removed (catalogue_in words.old) school) }

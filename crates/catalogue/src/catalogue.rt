@@ -8,7 +8,7 @@ use crate::error::CatalogueError;
 use crate::{acts, lookup};
 use word::format_flags::Format;
 
-#[derive(Clone, Copy)]
+#[derive(Clone, Copy, Debug, PartialEq, Eq)]
 pub struct Catalogue {
     pub words: [u64; 194],
 }

@@ -1,4 +1,5 @@
-// The entries of a lent catalogue: three words each, behind the two of how many are listed and of the tally.
+// The entries of a lent catalogue: three words each, behind the two of how many are listed and of the tally. The place of an entry is written
+// as the sum that it is, here and in the other files: the laws are about that sum.
 ghost use Rattle.std.specs.Prelude.{◌≡◌, [], ◌∷◌, ◌+◌, ◌*◌, ◌<◌, ◌≤◌, slice_index_or};
 ghost use Rattle.std.proofs.lemmas.List.Edits.{sets};
 ghost use Rattle.catalogue.specs.Catalogue.{size, no_entry};
@@ -8,7 +9,7 @@ use word::format_flags::Format;
 
 // A school and the format word of its sheet. The number is as it stands in the block: from 1 to 65,535 in every catalogue that comes from
 // an empty one.
-#[derive(Clone, Copy)]
+#[derive(Clone, Copy, Debug, PartialEq, Eq)]
 pub struct Entry {
     pub school: u64,
     pub format: Format,

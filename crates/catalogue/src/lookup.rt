@@ -7,7 +7,7 @@ use crate::entries::{Entry, entry_at, listed};
 use crate::search::seek;
 use word::format_flags::Format;
 
-// The word of a school.
+// The word of a school. A match: behind `.ok()` it would have to be proved again what the search says of the place.
 pub fn find(words: &[u64; 194], school: u16) -> Option<Format>
     ensures { result ≡ word_in (catalogue_in words.now) school }
 {

@@ -1,14 +1,8 @@
 -- DEMAND 1 of a digit run: a value, or one of its numbers, told of its own fault, with nothing taken, nothing passed and the state that it
 -- was given. For every word, buffer, state and reader; nothing is assumed. 01's numbers are those of a zero skip, of which demand-1 speaks.
-use mathlib.Core.Path.{◌≡◌, refl}
-use mathlib.Core.Logic.{◌⊎◌, inl, inr}
-use mathlib.Core.Bool.{Bool, true, false, not}
-use mathlib.Core.List.{List, [], ◌∷◌}
-use Prim.Native.Nat.{ℕ, zero, suc, ◌^◌}
-use native.Mathlib.Omega.{arith}
-use borrow.Author.Tests.{eqb-true, eqb-false, ltb-false}
-use lib.Dec.{eqb, ltb}
-use lib.ListN.{length}
+use Rattle.std.proofs.Common.{◌≡◌, ℕ, zero, suc, ◌^◌, Bool, true, false, not, eqb, ltb, ◌⊎◌, List, [], ◌∷◌, length, refl, inl, inr, arith, ltb-false, eqb-true}
+use borrow.Author.Tests.{eqb-false}
+use Rattle.std.proofs.lemmas.List.{nil_from_length}
 use Rattle.word.specs.Check.{line, first_failing}
 use Rattle.reader.specs.declared.state.Reader.{Reader}
 use Rattle.reader.specs.declared.state.State.{State}
@@ -21,11 +15,6 @@ use Rattle.reader.proofs.Demand1.{demand_1}
 use Rattle.cells.specs.Value.{value_of}
 use Rattle.cells.specs.DigitRun.{line23, line24, taken_run, run_refusal, digit_run_of}
 use Rattle.cells.specs.RefusalKeeps.{ReaderFault, DigitFault, RunRefusalKeeps}
-
--- a list without members
-none_in : (l : List ℕ) → length l ≡ 0 → l ≡ []
-none_in [] e = refl
-none_in (b ∷ l) e = absurd (omega (arith, e))
 
 module _ (x : Syntax) (s : List ℕ) (st : State) (r : Reader) where
   abbrev m : Reading
@@ -52,7 +41,7 @@ module _ (x : Syntax) (s : List ℕ) (st : State) (r : Reader) where
     go :
         (t u : Bool) → eqb (length digits) 0 ≡ t → ltb (value_of x.radix digits) (2 ^ 64) ≡ u
         → (first_failing (line 23 (not t) ∷ line 24 u ∷ []) ≡ 0) ⊎ DigitFault x s st r (first_failing (line 23 (not t) ∷ line 24 u ∷ []))
-    go true u e f = inr (inl (refl, none_in digits (eqb-true (length digits) 0 e)))
+    go true u e f = inr (inl (refl, nil_from_length digits (eqb-true (length digits) 0 e)))
     go false true e f = inl refl
     go false false e f = inr (inr (refl, ltb-false (value_of x.radix digits) (2 ^ 64) f))
 

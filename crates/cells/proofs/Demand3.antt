@@ -1,13 +1,7 @@
 -- DEMAND 3 with digit runs: a list of the five calls and of digit runs, in any order, from a fresh cursor on a sheet whose word the full
 -- check accepts, stands for its calls, and demand-3 speaks of those. That the calls come to the state and the sums that the list returns
 -- holds from every state, for every word. Assumes nothing else.
-use mathlib.Core.Path.{◌≡◌, ◌∙◌, refl, ap, subst}
-use mathlib.Core.Bool.{Bool, true, false, cond}
-use mathlib.Core.List.{List, [], ◌∷◌, ◌++◌}
-use Prim.Native.Nat.{ℕ, zero, suc, ◌+◌}
-use native.Mathlib.Omega.{arith}
-use lib.Dec.{eqb}
-use lib.ListN.{length, length-append}
+use Rattle.std.proofs.Common.{◌≡◌, ℕ, zero, suc, ◌+◌, Bool, true, false, cond, eqb, List, [], ◌∷◌, ◌++◌, length, refl, ap, ◌∙◌, subst, arith, length-append}
 use Rattle.word.specs.Check.{full_check}
 use Rattle.reader.specs.declared.state.Reader.{Reader}
 use Rattle.reader.specs.declared.state.State.{State}

@@ -1,13 +1,8 @@
 -- What a digit run takes: digits only, by every word. Assumes nothing.
-use mathlib.Core.Path.{◌≡◌, ◌∙◌, refl, sym}
-use mathlib.Core.Bool.{Bool, true, false, false≢true}
-use mathlib.Core.List.{List, [], ◌∷◌, ◌++◌}
-use Prim.Native.Nat.{ℕ, zero, suc, ◌+◌, ◌<◌}
-use native.Mathlib.Omega.{arith}
-use borrow.Author.Tests.{eqb-true, ltb-true}
-use lib.Dec.{eqb}
-use Rattle.std.specs.Prelude as std
-use Rattle.std.specs.Prelude.{is_some, Option, Some, None}
+use Rattle.std.proofs.Common.{◌≡◌, ℕ, zero, suc, ◌+◌, ◌<◌, Bool, true, false, eqb, List, ◌++◌, is_some, Some, None, Option, sym, refl, ◌∙◌, arith, ltb-true, eqb-true}
+use Rattle.std.specs.List.{AllPass}
+use Rattle.std.proofs.lemmas.Bool.{false≢true}
+use Rattle.std.proofs.lemmas.List.Elements.{All-nil, All-cons}
 use Rattle.word.specs.Digit.{below, digit_value, is_digit}
 use Rattle.reader.specs.declared.state.Reader.{Reader}
 use Rattle.reader.specs.declared.state.State.{State}
@@ -22,11 +17,6 @@ use Rattle.reader.proofs.state.Refusals.{within, still_admitted, peek_admitted, 
 use Rattle.reader.proofs.state.Updates.{count_moved}
 use Rattle.cells.specs.DigitRun.{sees_digit, digits_from}
 use Rattle.cells.proofs.TwicePassed.{digit_behind}
-
--- a test holds of every member
-abbrev pub Every : (ℕ → Bool) → List ℕ → Type 0
-Every test [] = Unit {0}
-Every test (b ∷ rest) = (test b ≡ true) × Every test rest
 
 module _ (x : Syntax) (s : List ℕ) (r : Reader) where
   abbrev m : Reading
@@ -84,34 +74,30 @@ module _ (x : Syntax) (s : List ℕ) (r : Reader) where
     go true t = taken_here st (eqb-true (refusal_of m s st r) 0 t) sees c took
     go false t = absurd (false≢true (rw (turned_away m s st r t) at sees))
 
-  pub digits_are_digits : (n : ℕ) (st : State) → Every (λ b. is_digit b x.radix) (digits_from n m s r st).digits
+  pub digits_are_digits : (n : ℕ) (st : State) → AllPass (λ b. is_digit b x.radix) (digits_from n m s r st).digits
   unfolding digits_from reading_with
-  digits_are_digits zero st = tt
+  digits_are_digits zero st = All-nil _
   digits_are_digits (suc n) st = go (sees_digit m (peek_of m s st r).byte) refl (digits_are_digits n (next_of m s (peek_of m s st r).state r).state) where
-    joined : (rest : List ℕ) (o : Option ℕ) → ((c : ℕ) → o ≡ Some c → is_digit c x.radix ≡ true) → Every (λ b. is_digit b x.radix) rest
-        → Every (λ b. is_digit b x.radix) (byte_taken o ++ rest)
+    joined : (rest : List ℕ) (o : Option ℕ) → ((c : ℕ) → o ≡ Some c → is_digit c x.radix ≡ true) → AllPass (λ b. is_digit b x.radix) rest
+        → AllPass (λ b. is_digit b x.radix) (byte_taken o ++ rest)
     joined rest None one all = all
-    joined rest (Some c) one all = (one c refl, all)
+    joined rest (Some c) one all = All-cons (λ b. is_digit b x.radix ≡ true) c rest (one c refl) all
 
     go :
         (t : Bool) → sees_digit m (peek_of m s st r).byte ≡ t
-        → Every (λ b. is_digit b x.radix) (digits_from n m s r (next_of m s (peek_of m s st r).state r).state).digits
-        → Every (λ b. is_digit b x.radix) (digits_from (suc n) m s r st).digits
-    go false e rest = rw e tt
+        → AllPass (λ b. is_digit b x.radix) (digits_from n m s r (next_of m s (peek_of m s st r).state r).state).digits
+        → AllPass (λ b. is_digit b x.radix) (digits_from (suc n) m s r st).digits
+    go false e rest = rw e (All-nil (λ b. is_digit b x.radix ≡ true))
     go true e rest = rw e (joined _ (next_of m s (peek_of m s st r).state r).byte (digit_taken st e) rest)
 
 -- so each has a value, in a radix of eight bits: above that every byte is a digit
 has_value : (b radix : ℕ) → radix < 256 → is_digit b radix ≡ true → is_some (digit_value b) ≡ true
 unfolding is_digit
 has_value b radix small = go (digit_value b) where
-  go : (o : std.Option ℕ) → below o radix ≡ true → is_some o ≡ true
-  go std.None h = absurd (omega (arith, ltb-true 255 radix h))
-  go (std.Some d) h = refl
-
-each_has_value : (radix : ℕ) → radix < 256 → (digits : List ℕ) → Every (λ b. is_digit b radix) digits → Every (λ b. is_some (digit_value b)) digits
-each_has_value radix small [] all = tt
-each_has_value radix small (b ∷ rest) all = (has_value b radix small all.0, each_has_value radix small rest all.1)
+  go : (o : Option ℕ) → below o radix ≡ true → is_some o ≡ true
+  go None h = absurd (omega (arith, ltb-true 255 radix h))
+  go (Some d) h = refl
 
 pub digits_have_values : (x : Syntax) (s : List ℕ) (r : Reader) (n : ℕ) (st : State) → x.radix < 256
-    → Every (λ b. is_some (digit_value b)) (digits_from n (reading_with x) s r st).digits
-digits_have_values x s r n st small = each_has_value x.radix small (digits_from n (reading_with x) s r st).digits (digits_are_digits x s r n st)
+    → AllPass (λ b. is_some (digit_value b)) (digits_from n (reading_with x) s r st).digits
+digits_have_values x s r n st small = λ k d h. has_value _ x.radix small (digits_are_digits x s r n st k d h)

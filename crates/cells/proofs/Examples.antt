@@ -1,10 +1,6 @@
 -- Digit runs worked out from the definitions, by computation: the first and the last value, the refusals, what stays of the last peek, and
 -- words that the check refuses. Each from a fresh state. Assumes nothing.
-use Rattle.std.specs.Prelude.{Option, Some, None}
-use mathlib.Core.Path.{◌≡◌, refl}
-use mathlib.Core.Bool.{Bool, true, false}
-use mathlib.Core.List.{List, [], ◌∷◌, map}
-use Prim.Native.Nat.{ℕ}
+use Rattle.std.proofs.Common.{◌≡◌, ℕ, Bool, true, false, List, [], ◌∷◌, map, Some, None, Option, refl}
 use Rattle.word.specs.Digit.{digit_value, is_digit}
 use Rattle.reader.specs.declared.rule.Flags.{Flags}
 use Rattle.reader.specs.declared.state.Reader.{Reader}

@@ -1,22 +1,14 @@
 -- A digit run ends within as many steps as there are bytes: more of them would change nothing, so the number that the definition allows is
 -- enough. Assumes nothing.
-use Rattle.std.specs.Prelude.{Option, Some, None}
-use mathlib.Core.Path.{◌≡◌, ◌∙◌, refl, sym, ap}
-use mathlib.Core.Bool.{Bool, true, false, cond}
-use mathlib.Core.List.{List}
-use Prim.Native.Nat.{ℕ, zero, suc, ◌+◌, ◌≤◌}
-use native.Mathlib.Nat.{zero-add}
-use native.Mathlib.Omega.{arith}
-use borrow.Author.Tests.{eqb-true, ltb-true, ltb-false}
-use lib.Dec.{eqb, ltb}
-use lib.ListN.{length}
+use Rattle.std.proofs.Common.{◌≡◌, ℕ, zero, suc, ◌+◌, ◌≤◌, Bool, true, false, cond, eqb, ltb, List, length, Some, None, Option, sym, refl, ap, ◌∙◌, zero-add, arith, ltb-false, ltb-true, eqb-true}
+use Rattle.std.proofs.lemmas.Option.{none-some}
 use Rattle.reader.specs.declared.state.Reader.{Reader}
 use Rattle.reader.specs.declared.state.State.{State}
 use Rattle.reader.specs.Place.{byte_at}
 use Rattle.reader.specs.Reading.{Reading, passed_at}
 use Rattle.reader.specs.State.{count_of, moved_to}
 use Rattle.reader.specs.Calls.{refusal_of, peeked, peek_of, take_byte, next_of}
-use Rattle.reader.proofs.passing.Places.{byte_here, none_there}
+use Rattle.reader.proofs.passing.Places.{byte_here}
 use Rattle.reader.proofs.state.Refusals.{peek_admitted, turned_away}
 use Rattle.reader.proofs.skip.Takes.{peek_byte, next_takes_one}
 use Rattle.reader.proofs.ByteTally.Steps.{moves_clear, peek_step}
@@ -28,7 +20,7 @@ module _ (m : Reading) (s : List ℕ) (r : Reader) where
   seen_clear st b e = go (eqb (refusal_of m s st r) 0) refl where
     go : (t : Bool) → eqb (refusal_of m s st r) 0 ≡ t → refusal_of m s st r ≡ 0
     go true t = eqb-true (refusal_of m s st r) 0 t
-    go false t = absurd (none_there b (rw (turned_away m s st r t) at e))
+    go false t = absurd (none-some b (rw (turned_away m s st r t) at e))
 
   -- a peek that is not refused and sees no byte has come to the end
   peeks_end : (st : State) → refusal_of m s st r ≡ 0 → (peek_of m s st r).byte ≡ None → length s ≤ (peek_of m s st r).state.cursor
@@ -41,7 +33,7 @@ module _ (m : Reading) (s : List ℕ) (r : Reader) where
     there = rw (peek_admitted m s st r clear) at e
 
     go : (t : Bool) → ltb place (length s) ≡ t → length s ≤ place
-    go true t = absurd (none_there _ (sym there ∙ byte_here s place (ltb-true place (length s) t)))
+    go true t = absurd (none-some _ (sym there ∙ byte_here s place (ltb-true place (length s) t)))
     go false t = ltb-false place (length s) t
 
   -- a take that takes nothing is its peek
@@ -51,7 +43,7 @@ module _ (m : Reading) (s : List ℕ) (r : Reader) where
     go : (o : Option ℕ) → (peek_of m s st r).byte ≡ o → (take_byte m r (peek_of m s st r) o).byte ≡ None
         → (o ≡ None) × ((take_byte m r (peek_of m s st r) o).state ≡ (peek_of m s st r).state)
     go None q h = (refl, refl)
-    go (Some b) q h = absurd (none_there b (sym h))
+    go (Some b) q h = absurd (none-some b (sym h))
 
   -- a take from behind a peek that saw a byte moves the cursor on, or to the end
   moves_on : (st : State) (b : ℕ) → (peek_of m s st r).byte ≡ Some b → (n : ℕ) → length s ≤ st.cursor + suc n

@@ -1,21 +1,16 @@
 -- A peek may leave its cursor at a separator that is itself a digit (words that the check refuses), and the take behind it then passes
 -- that one too. By 01's rules it does so only without the consecutive flag, and only in front of a digit: so behind a peek that saw a digit
 -- a digit is taken, by every word. Assumes nothing.
-use Rattle.std.specs.Prelude.{Option, Some, slice_get}
-use mathlib.Core.Path.{◌≡◌, ◌∙◌, refl, sym, ap}
-use mathlib.Core.Bool.{Bool, true, false, false≢true}
-use mathlib.Core.List.{List}
-use Prim.Native.Nat.{ℕ, ◌+◌}
-use native.Mathlib.Nat.{add-zero}
-use native.Mathlib.Numerals.{add-one}
-use lib.ListN.{drop, get_or}
+use Rattle.std.proofs.Common.{◌≡◌, ℕ, ◌+◌, Bool, true, false, List, get_or, drop, Some, Option, sym, refl, ap, ◌∙◌, add-zero, add-one}
+use Rattle.std.proofs.lemmas.Bool.{false≢true}
 use Rattle.reader.specs.declared.rule.Flags.{Flags}
 use Rattle.reader.specs.declared.rule.Neighbour.{Neighbour}
 use Rattle.reader.specs.declared.passing.Syntax.{Syntax}
 use Rattle.reader.specs.Rule.{rule_of, first, later}
-use Rattle.reader.specs.Place.{is_separator, byte_at, before, after, nearest}
+use Rattle.reader.specs.Place.{is_separator, byte_at, before, after}
 use Rattle.reader.specs.Reading.{Reading, reading_with, neighbour_of, previous, following, may_pass, passed_at}
 use Rattle.reader.proofs.passing.Places.{byte_here, byte_inside, before_next, run_byte}
+use Rattle.reader.proofs.ByteTally.Settling.{plain_nearest}
 use Rattle.reader.proofs.passing.Passed.{passes_here, passes_none, passes_one, passes_run, separator_is, other_differs}
 
 -- a neighbour that is a separator and a digit
@@ -47,9 +42,6 @@ twice : (f : Flags) (is_first : Bool) (p n : Neighbour) → f.consecutive ≡ fa
 unfolding rule_of
 twice f true p n single front back = twice_first f.internal f.leading f.trailing p n (rw single at front) (rw single at back)
 twice f false p n single front back = twice_later f.internal f.leading f.trailing p n (rw single at front) (rw single at back)
-
-plain_nearest : (separator : ℕ) (consecutive : Bool) (bytes : List ℕ) → consecutive ≡ false → nearest separator consecutive bytes ≡ slice_get bytes 0
-plain_nearest separator consecutive bytes e = rw e
 
 same_byte : (o : Option ℕ) (a b : ℕ) → o ≡ Some a → o ≡ Some b → a ≡ b
 same_byte o a b e f = cc

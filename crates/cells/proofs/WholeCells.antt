@@ -1,16 +1,8 @@
 -- Of a run that reaches the end of a cell, the digits are the cell's bytes that are no separators: for numbers from cells that are longer
 -- than 64 bits hold. Assumes nothing.
-use Rattle.std.specs.Prelude.{Option, Some, None}
-use mathlib.Core.Path.{◌≡◌, ◌∙◌, refl, sym, ap}
-use mathlib.Core.Bool.{Bool, true, false, false≢true}
-use mathlib.Core.List.{List, [], ◌∷◌, ◌++◌, append-nil, append_assoc}
-use mathlib.Core.Logic.{⊎_elim}
-use Prim.Native.Nat.{ℕ, zero, suc, ◌+◌, ◌<◌}
-use native.Mathlib.Nat.{add-zero, eq-zero-or-pos}
-use native.Mathlib.Omega.{arith}
-use lib.Dec.{eqb}
-use lib.ListN.{length, take, drop, replicate, take-append-drop}
-use lib.Seq.{drop-drop, drop-length}
+use Rattle.std.proofs.Common.{◌≡◌, ℕ, zero, suc, ◌+◌, ◌<◌, Bool, true, false, eqb, List, [], ◌∷◌, ◌++◌, length, take, drop, replicate, Some, None, Option, sym, refl, ap, ◌∙◌, ⊎_elim, append_assoc, append-nil, add-zero, eq-zero-or-pos, arith, take-append-drop, drop-drop}
+use lib.Seq.{drop-length}
+use Rattle.std.proofs.lemmas.Bool.{false≢true}
 use Rattle.word.specs.Digit.{is_digit}
 use Rattle.word.specs.Word.{digit_separator, mantissa_radix}
 use Rattle.word.specs.Check.{full_check}
@@ -36,7 +28,7 @@ others-behind separator zero l e = refl
 others-behind separator (suc k) l e = rw e (others-behind separator k l e)
 
 first_then : (l : List ℕ) (b : ℕ) → take 1 l ≡ b ∷ [] → l ≡ b ∷ drop 1 l
-first_then [] b e = absurd (let z : ◌≡◌ {A = ℕ} 0 1 = cc in omega arith)
+first_then [] b e = absurd (cc)
 first_then (c ∷ l) b e = let same : c ≡ b = cc in rw same
 
 module _ (x : Syntax) (s : List ℕ) (r : Reader) (apart : (b : ℕ) → is_digit b x.radix ≡ true → is_separator x.separator b ≡ false) where

@@ -12,7 +12,7 @@ use reader::iterator::admit_run;
 use reader::passing::{Syntax, syntax_for};
 use reader::rule::Flags;
 use reader::skip::{next, peek};
-use reader::state::{Reader, Refusal, State, moved, with_count};
+use reader::state::{Numbered, Reader, Refusal, State, moved, with_count};
 use word::digit::char_is_digit_by_table;
 
 // Why a run has no value.
@@ -39,9 +39,17 @@ impl RunError {
     }
 }
 
+impl Numbered for RunError {
+    ghost number_as = { error_number };
+
+    fn told_number(self) -> u32 {
+        self.number()
+    }
+}
+
 // A step of a run: a byte taken, with the place and the reader's count behind it and how many separators were passed; or the end of the
-// run, with its place and what the last peek passed.
-#[derive(Clone, Copy)]
+// run, with its place and what the last peek passed. Parts without names: it is taken apart right behind each call.
+#[derive(Clone, Copy, Debug, PartialEq, Eq)]
 pub enum Step {
     Taken(u8, usize, usize, usize),
     Over(usize, usize),
@@ -95,7 +103,7 @@ fn count_past(flags: Flags, count: usize) -> usize
     requires { count + 1 < 2 ^ 64 }
     ensures { result ≡ cond (has_any_flag flags) (count + 1) count }
 {
-    let counts = flags.internal | flags.leading | flags.trailing | flags.consecutive;
+    let counts = flags.has_any();
     if counts {
         return count + 1;
     }

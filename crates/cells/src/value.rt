@@ -17,11 +17,7 @@ fn times_plus(value: u64, radix: u64, digit: u64) -> Option<u64>
         return Some(value * radix + digit);
     }
     let whole = u128::from(value) * u128::from(radix) + u128::from(digit);
-    let fits = whole < 1 << 64;
-    if fits {
-        return Some(whole as u64);
-    }
-    None
+    u64::try_from(whole).ok()
 }
 
 // A value with the digit c behind it.

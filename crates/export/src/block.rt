@@ -15,7 +15,7 @@ use reader::skip::take_n;
 use reader::state::{Reader, Refusal, State};
 
 // The place where a block begins.
-#[derive(Clone, Copy)]
+#[derive(Clone, Copy, Debug, PartialEq, Eq)]
 pub struct Place(pub usize);
 
 // A block is told by its place.
@@ -39,11 +39,7 @@ impl Tell for Option<Place> {
 fn place_in(found: Block, cursor: usize) -> Result<Option<Place>, Refusal>
     ensures { result ≡ place_in cursor found }
 {
-    match found {
-        Ok(Some(_)) => Ok(Some(Place(cursor))),
-        Ok(None) => Ok(None),
-        Err(refusal) => Err(refusal),
-    }
+    Ok(found?.map(|_| Place(cursor)))
 }
 
 // A block take whose block is told by its place.

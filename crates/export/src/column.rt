@@ -1,31 +1,18 @@
 // Takes to the end of every cell of a column in one call. There is no state: each cell has a fresh one of its own.
 ghost use Rattle.std.specs.Prelude.{◌≡◌};
-ghost use Rattle.reader.specs.Column.{column_outcome_of};
 ghost use Rattle.export.specs.Column.{column_written, column_read_by, column_held, held_of};
 
 use reader::column::{Totals, next_all_column};
-use reader::state::{Reader, Refusal};
+use reader::state::Reader;
 use word::format_flags::Format;
 
 // The sums over a column, or the number of its refusal.
-fn totals_of(column: Result<Totals, Refusal>) -> Result<Totals, u32>
-    ensures { held_of result ≡ column_written (column_outcome_of column) }
-{
-    match column {
-        Ok(totals) => Ok(totals),
-        Err(refusal) => Err(refusal.number()),
-    }
-}
-
 fn read_column(s: &[u8], ends: &[usize], lo: u64, hi: u64, reader: u8) -> Result<Totals, u32>
     ensures { held_of result ≡ column_written (column_read_by reader (record { lo = lo; hi = hi }) s.now ends.now) }
 {
     let format = Format { lo, hi };
-    let by = Reader::try_from(reader);
-    match by {
-        Ok(x) => totals_of(next_all_column(s, ends, format, x)),
-        Err(_) => Err(19),
-    }
+    let by = Reader::try_from(reader).map_err(|unknown| unknown.number())?;
+    next_all_column(s, ends, format, by).map_err(|refusal| refusal.number())
 }
 
 // Takes every cell of a column to its end, each from a fresh state. The cells lie one after the other in the buffer, and end at `ends`;

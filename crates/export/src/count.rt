@@ -17,6 +17,7 @@ pub extern "C" fn pawhetino_current_count(
     ensures number { result ≡ (counted_for reader state.now s.now).refusal }
     ensures written { count.new ≡ or_old count.old (counted_for reader state.now s.now).count }
 {
+    // Two errors of two types. As a result with `map_err` and `?`, like a column's, its proof would be the longer one.
     let by = reader_on(reader, state[7]);
     match by {
         Ok(x) => match current_count(s, state_in(state), x) {
@@ -26,6 +27,6 @@ pub extern "C" fn pawhetino_current_count(
             }
             Err(refusal) => refusal.number(),
         },
-        Err(_) => 19,
+        Err(unknown) => unknown.number(),
     }
 }

@@ -1,7 +1,6 @@
 // Digit runs. Most cells are decimal, are read from a fresh state and begin with a digit, and each of their separators stands right before
 // one: such cells go by numbers, and nothing is asked of the rule table.
 ghost use Rattle.std.specs.Prelude.{◌≡◌, [], ◌∷◌, ◌+◌, ◌*◌, ◌-◌, ◌<◌, ◌≤◌, cond, nat_eq, Some, None, IfSome};
-ghost use Rattle.cells.specs.DigitRun.{error_number};
 ghost use Rattle.export.specs.State.{state_words};
 ghost use Rattle.export.specs.Answer.{value_words};
 ghost use Rattle.export.specs.Calls.{digit_run_by};
@@ -10,10 +9,10 @@ ghost use Rattle.export.specs.Code.FreshWords.{end_words};
 ghost use Rattle.export.specs.Code.GroupedRun.{GroupedRun as Run};
 
 use crate::fresh::{fresh_format, put_counted};
-use crate::here::radix_of;
-use crate::reply::{Numbered, Tell, Told, served};
-use cells::digit_run::{RunError, digit_run};
+use crate::reply::{Tell, Told, served};
+use cells::digit_run::digit_run;
 use word::digit::char_is_digit_by_range;
+use word::format_flags::mantissa_radix_byte;
 
 // The value of the digits.
 impl Tell for u64 {
@@ -27,15 +26,7 @@ impl Tell for u64 {
     }
 }
 
-impl Numbered for RunError {
-    ghost number_as = { error_number };
-
-    fn told_number(self) -> u32 {
-        self.number()
-    }
-}
-
-// As the reader answers it.
+// As the reader answers it; called at each way out of the quick way, as that of takes to the end is.
 fn digit_run_any(s: &[u8], reader: u8, state: &mut [u64; 8], answer: &mut [u64; 4]) -> u32
     ensures number { result ≡ (digit_run_by reader state.old s.now).refusal }
     ensures moved { state.new ≡ state_words state.old (digit_run_by reader state.old s.now).state }
@@ -50,7 +41,7 @@ fn digit_run_any(s: &[u8], reader: u8, state: &mut [u64; 8], answer: &mut [u64; 
 }
 
 // What the digits of a grouped cell come to: where they end, their value, how many they are and the separators passed.
-#[derive(Clone, Copy)]
+#[derive(Clone, Copy, Debug, PartialEq, Eq)]
 pub struct GroupedRun {
     pub at: usize,
     pub value: u64,
@@ -77,7 +68,7 @@ fn grouped(at: usize, value: u64, passed: usize) -> Option<GroupedRun>
 }
 
 // From this on a figure more may take a value above 64 bits.
-const LARGE: u64 = 1844674407370955161;
+const LARGE: u64 = u64::MAX / 10;
 
 // The value with a figure behind it.
 fn with_figure(value: u64, b: u8) -> u64
@@ -107,17 +98,16 @@ fn grouped_run(s: &[u8], separator: u8) -> Option<GroupedRun>
             }
             let c = s[n];
             let double = c == separator;
-            if double {
-                return None;
-            }
-            if !char_is_digit_by_range(c, 10) {
+            let before_digit = char_is_digit_by_range(c, 10);
+            if double | !before_digit {
                 return None;
             }
             passed += 1;
             at = n;
             continue;
         }
-        if !char_is_digit_by_range(b, 10) {
+        let figure = char_is_digit_by_range(b, 10);
+        if !figure {
             return grouped(at, value, passed);
         }
         if LARGE <= value {
@@ -157,7 +147,7 @@ pub extern "C" fn pawhetino_digit_run(
     let Some(format) = fresh_format(reader, &*state) else {
         return digit_run_any(&s[..], reader, &mut *state, &mut *answer);
     };
-    let lettered = radix_of(format) != 10;
+    let lettered = mantissa_radix_byte(format) != 10;
     if lettered {
         return digit_run_any(&s[..], reader, &mut *state, &mut *answer);
     }

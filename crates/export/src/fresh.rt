@@ -4,6 +4,7 @@ ghost use Rattle.export.specs.State.{state_in};
 ghost use Rattle.export.specs.Code.FreshWords.{FreshWords, end_words};
 
 use crate::over::has_internal;
+use crate::state::format_in;
 use word::format_flags::Format;
 
 // The format word, where the state is fresh, of a known edition, and the reader counts and may pass between digits.
@@ -23,9 +24,7 @@ pub(crate) fn fresh_format(reader: u8, state: &[u64; 8]) -> Option<Format>
     if counted {
         return None;
     }
-    let lo = state[0];
-    let hi = state[1];
-    let format = Format { lo, hi };
+    let format = format_in(state);
     let unset = format.digit_separator() == 0;
     if unset {
         return None;
@@ -36,7 +35,7 @@ pub(crate) fn fresh_format(reader: u8, state: &[u64; 8]) -> Option<Format>
     Some(format)
 }
 
-// The count for the reader that it is, 0 for another.
+// The count for the reader that it is, 0 for another: by its number, so that nothing is asked of it.
 fn own(reader: u8, which: u8, count: u64) -> u64
     ensures { result ≡ cond (nat_eq reader which) count 0 }
 {

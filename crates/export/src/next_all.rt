@@ -9,13 +9,14 @@ ghost use Rattle.export.specs.Code.FreshWords.{end_words};
 ghost use Rattle.export.specs.Code.GroupedCell.{GroupedCell};
 
 use crate::fresh::{fresh_format, put_counted};
-use crate::here::radix_of;
 use crate::reply::served;
 use crate::spaced::next_all_runs;
 use reader::skip::next_all;
 use word::digit::char_is_digit_by_range;
+use word::format_flags::mantissa_radix_byte;
 
-// As the reader answers it.
+// As the reader answers it. It is called at each way out of the quick way: behind all of them at once, it would have registers saved on the
+// quick way too (docs/DECISIONS.md, 52).
 pub(crate) fn next_all_any(s: &[u8], reader: u8, state: &mut [u64; 8], answer: &mut [u64; 4]) -> u32
     ensures number { result ≡ (taken_all_by reader state.old s.now).refusal }
     ensures moved { state.new ≡ state_words state.old (taken_all_by reader state.old s.now).state }
@@ -30,14 +31,14 @@ pub(crate) fn next_all_any(s: &[u8], reader: u8, state: &mut [u64; 8], answer: &
 }
 
 // What a cell taken by numbers comes to: its digits and the separators passed.
-#[derive(Clone, Copy)]
+#[derive(Clone, Copy, Debug, PartialEq, Eq)]
 pub struct Grouped {
     pub count: usize,
     pub passed: usize,
 }
 
 // What keeps a cell from being grouped: two separators side by side, or anything else.
-#[derive(Clone, Copy)]
+#[derive(Clone, Copy, Debug, PartialEq, Eq)]
 pub enum NotGrouped {
     HasRun,
     Other,
@@ -82,7 +83,8 @@ fn grouped_cell(s: &[u8], separator: u8, radix: u8) -> Result<Grouped, NotGroupe
         if double {
             return Err(NotGrouped::HasRun);
         }
-        if !char_is_digit_by_range(c, radix) {
+        let before_digit = char_is_digit_by_range(c, radix);
+        if !before_digit {
             return Err(NotGrouped::Other);
         }
         count += 1;
@@ -131,7 +133,7 @@ pub extern "C" fn pawhetino_next_all(
     };
     let separator = format.digit_separator();
     let size = s.len();
-    match grouped_cell(s, separator, radix_of(format)) {
+    match grouped_cell(s, separator, mantissa_radix_byte(format)) {
         Ok(cell) => put_end(reader, size, cell, &mut *state, &mut *answer),
         Err(NotGrouped::HasRun) => next_all_runs(&s[..], reader, &mut *state, &mut *answer),
         Err(NotGrouped::Other) => next_all_any(&s[..], reader, &mut *state, &mut *answer),

@@ -35,16 +35,13 @@ pub extern "C" fn pawhetino_peek(
     ensures moved { state.new ≡ state_words state.old (peeked_by reader state.old s.now).state }
     ensures written { answer.new ≡ byte_words answer.old (peeked_by reader state.old s.now) }
 {
-    if 2 < reader {
-        return peek_any(&s[..], reader, &mut *state, &mut *answer);
-    }
     let here = found_here(s, reader, &*state);
     match here {
         Here::Byte(b) => {
             let byte = u64::from(b);
-            stay([1, byte, 0, 0], &mut *state, &mut *answer)
+            stay([1, byte, 0, 0], &mut *answer)
         }
-        Here::End => answer_none(&mut *state, &mut *answer),
+        Here::End => answer_none(&mut *answer),
         Here::Separator => {
             if over_here(s, reader, &mut *state, &mut *answer, false) {
                 return 0;

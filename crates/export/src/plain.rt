@@ -1,9 +1,10 @@
 // The plain reader, which passes nothing and whose state is a cursor alone.
-ghost use Rattle.std.specs.Prelude.{◌≡◌, [], ◌∷◌, slice_index};
+ghost use Rattle.std.specs.Prelude.{◌≡◌};
 ghost use Rattle.reader.specs.Plain.{plain_outcome_of};
 ghost use Rattle.export.specs.Plain.{plain_peeked_by, plain_taken_by, plain_words};
 ghost use Rattle.export.specs.Code.Plain.{IsPlainServed};
 
+use crate::here::answer_none;
 use reader::noskip;
 use reader::state::Reader;
 
@@ -30,21 +31,11 @@ fn put_plain(answered: noskip::Answer, cursor: &mut usize, answer: &mut [u64; 4]
             *answer = [0, old, taken, passed];
             0
         }
-        Err(_) => {
+        Err(error) => {
             *answer = [0, old, taken, passed];
-            16
+            error.number()
         }
     }
-}
-
-// A byte that names no reader.
-fn unknown(answer: &mut [u64; 4]) -> u32
-    ensures number { result ≡ 19 }
-    ensures written { answer.new ≡ (0 ∷ slice_index answer.old 1 ∷ 0 ∷ 0 ∷ []) }
-{
-    let old = answer[1];
-    *answer = [0, old, 0, 0];
-    19
 }
 
 // A call by the reader that is named, at the caller's cursor.
@@ -63,7 +54,10 @@ fn plain_served<F: FnOnce(noskip::Cursor, Reader) -> noskip::Answer>(
             let here = noskip::Cursor { cursor: *cursor };
             put_plain(call(here, x), &mut *cursor, &mut *answer)
         }
-        Err(_) => unknown(&mut *answer),
+        Err(unknown) => {
+            answer_none(&mut *answer);
+            unknown.number()
+        }
     }
 }
 

@@ -1,23 +1,24 @@
 // What a reader answered, on the way to a caller's words: the number returned, the state, and an answer of four words, which are
 // whether something was found (of a read how it ended), what it is, how many bytes were taken and how many separators passed.
-ghost use Rattle.std.specs.Prelude.{◌≡◌, ℕ, Some};
-ghost use Rattle.reader.specs.Answer.{number_of};
+ghost use Rattle.std.specs.Prelude.{◌≡◌, Some};
 ghost use Rattle.export.specs.State.{state_in, state_words};
 ghost use Rattle.export.specs.declared.reply.Told.{Told};
 ghost use Rattle.export.specs.Code.Reply.{byte_told, read_told, nothing_told, number_in, told_in, told_words, reply_of, refused_reply, reply_words, ReplyBy, IsServed};
 
 use crate::state::{put_state, reader_on, state_in};
 use reader::answer::{Answer, Read};
-use reader::state::{Reader, Refusal, State, UnknownReader};
+use reader::state::{Numbered, Reader, State, UnknownReader};
 
 // What an answer's first two words say of what a call found: how it ended, and the value, if there is one.
-#[derive(Clone, Copy)]
+#[derive(Clone, Copy, Debug, PartialEq, Eq)]
 pub struct Told {
+    // A number and no enum: it is the first of the C interface's four words.
     pub how: u64,
     pub value: Option<u64>,
 }
 
-#[derive(Clone, Copy)]
+// No `Answer` of reader: its number and what is told stand in it whether a call was refused or not.
+#[derive(Clone, Copy, Debug, PartialEq, Eq)]
 pub struct Reply {
     pub number: u32,
     pub state: State,
@@ -32,14 +33,6 @@ pub(crate) trait Tell {
 
     fn told(self) -> Told
         ensures { result ≡ told_as self };
-}
-
-// Why a call is refused, by its number in document 01.
-pub(crate) trait Numbered {
-    ghost number_as: { Self → ℕ };
-
-    fn told_number(self) -> u32
-        ensures { result ≡ number_as self };
 }
 
 // Where nothing is found.
@@ -84,14 +77,6 @@ impl Tell for Read {
             Read::Declined(b) => byte_found(2, b),
             Read::End => nothing(),
         }
-    }
-}
-
-impl Numbered for Refusal {
-    ghost number_as = { number_of };
-
-    fn told_number(self) -> u32 {
-        self.number()
     }
 }
 
@@ -143,7 +128,7 @@ fn of_answer<T: Tell, E: Numbered>(answer: Answer<Result<T, E>>) -> Reply
     }
 }
 
-// What the reader answers that is named, and 19 where none is.
+// What the reader answers that is named, and the number of an unknown one where none is.
 fn reply_by<T: Tell, E: Numbered, F: FnOnce(State, Reader) -> Answer<Result<T, E>>>(
     here: State,
     by: Result<Reader, UnknownReader>,
@@ -154,7 +139,7 @@ fn reply_by<T: Tell, E: Numbered, F: FnOnce(State, Reader) -> Answer<Result<T, E
 {
     match by {
         Ok(x) => of_answer(call(here, x)),
-        Err(_) => refused(19, here),
+        Err(unknown) => refused(unknown.number(), here),
     }
 }
 

@@ -1,11 +1,12 @@
 // The catalogue of school sheets, in 194 words that the caller lends: how many schools are listed, the tally, then school, lo and hi of
 // each of 64 places. The calls work on them where they lie.
 ghost use Rattle.std.specs.Prelude.{◌≡◌};
-ghost use Rattle.catalogue.specs.Catalogue.{empty_catalogue, size, word_in, entry_in, add_number, added, remove_number, removed};
+ghost use Rattle.catalogue.specs.Catalogue.{empty_catalogue, size, word_in, entry_in, add_number, added, remove_number, removed, answer_number};
 ghost use Rattle.catalogue.specs.Block.{catalogue_in, words_of};
 ghost use Rattle.export.specs.Catalogue.{number_found, halves_found, entry_found};
 
 use catalogue::acts::{add, remove};
+use catalogue::error::CatalogueError;
 use catalogue::lookup::{entry, find, len, separators};
 use word::format_flags::Format;
 
@@ -15,6 +16,16 @@ pub extern "C" fn pawhetino_catalogue_empty(words: &mut [u64; 194])
     ensures { words.new ≡ words_of empty_catalogue }
 {
     *words = [0; 194];
+}
+
+// 0, or the number of the error.
+fn number_in(done: Result<(), CatalogueError>) -> u32
+    ensures { result ≡ answer_number done }
+{
+    match done {
+        Ok(()) => 0,
+        Err(error) => error.number(),
+    }
 }
 
 // Adds a school with its format word: 0, or 1 to 14 as by the full check, then 25, then 26. A refused addition changes nothing.
@@ -28,10 +39,7 @@ pub extern "C" fn pawhetino_catalogue_add(
     ensures number { result ≡ add_number (catalogue_in words.old) school (record { lo = lo; hi = hi }) }
     ensures written { words.new ≡ words_of (added (catalogue_in words.old) school (record { lo = lo; hi = hi })) }
 {
-    match add(words, school, Format { lo, hi }) {
-        Ok(()) => 0,
-        Err(error) => error.number(),
-    }
+    number_in(add(words, school, Format { lo, hi }))
 }
 
 // Removes a school: 0, or 27, and then nothing is changed.
@@ -40,10 +48,7 @@ pub extern "C" fn pawhetino_catalogue_remove(words: &mut [u64; 194], school: u16
     ensures number { result ≡ remove_number (catalogue_in words.old) school }
     ensures written { words.new ≡ words_of (removed (catalogue_in words.old) school) }
 {
-    match remove(words, school) {
-        Ok(()) => 0,
-        Err(error) => error.number(),
-    }
+    number_in(remove(words, school))
 }
 
 // The halves of a listed school's word: 0, or 27, and then nothing is written.
@@ -61,7 +66,7 @@ pub extern "C" fn pawhetino_catalogue_find(
             *word = [format.lo, format.hi];
             0
         }
-        None => 27, // not listed
+        None => CatalogueError::NotListed.number(), // not listed
     }
 }
 
@@ -77,7 +82,7 @@ pub extern "C" fn pawhetino_catalogue_entry(words: &[u64; 194], i: usize, row: &
             *row = [sheet.school, format.lo, format.hi];
             0
         }
-        None => 27, // past the last one
+        None => CatalogueError::NotListed.number(), // past the last one
     }
 }
 

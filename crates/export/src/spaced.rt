@@ -7,12 +7,12 @@ ghost use Rattle.export.specs.Calls.{taken_all_by};
 ghost use Rattle.export.specs.Code.FreshWords.{FreshWords};
 ghost use Rattle.export.specs.Code.GroupedCell.{SpacedCell};
 
-use crate::here::radix_of;
 use crate::next_all::{Grouped, count_past, next_all_any, put_end};
 use crate::over::has_consecutive;
+use crate::state::format_in;
 use reader::search::search_run;
 use word::digit::char_is_digit_by_range;
-use word::format_flags::Format;
+use word::format_flags::mantissa_radix_byte;
 
 // A cell each of whose runs stands right before a digit, none before the first one. The loop jumps over a run, so it goes by an index.
 fn spaced_cell(s: &[u8], separator: u8, radix: u8) -> Option<Grouped>
@@ -38,7 +38,8 @@ fn spaced_cell(s: &[u8], separator: u8, radix: u8) -> Option<Grouped>
             return None;
         }
         let c = s[end];
-        if !char_is_digit_by_range(c, radix) {
+        let before_digit = char_is_digit_by_range(c, radix);
+        if !before_digit {
             return None;
         }
         count += 1;
@@ -60,14 +61,13 @@ pub(crate) fn next_all_runs(
     ensures moved { state.new ≡ state_words state.old (taken_all_by reader state.old s.now).state }
     ensures written { answer.new ≡ byte_words answer.old (taken_all_by reader state.old s.now) }
 {
-    let lo = state[0];
-    let hi = state[1];
-    let format = Format { lo, hi };
-    if !has_consecutive(format, reader) {
+    let format = format_in(&*state);
+    let consecutive = has_consecutive(format, reader);
+    if !consecutive {
         return next_all_any(&s[..], reader, &mut *state, &mut *answer);
     }
     let size = s.len();
-    match spaced_cell(s, format.digit_separator(), radix_of(format)) {
+    match spaced_cell(s, format.digit_separator(), mantissa_radix_byte(format)) {
         Some(cell) => put_end(reader, size, cell, &mut *state, &mut *answer),
         None => next_all_any(&s[..], reader, &mut *state, &mut *answer),
     }

@@ -7,18 +7,27 @@ use reader::open::open;
 use reader::state::{ExponentCount, FractionCount, IntegerCount, Reader, State, UnknownReader};
 use word::format_flags::Format;
 
-// The state that the words hold. The last two are no part of it. The casts stay: std has no `From` between u64 and usize.
-pub(crate) fn state_in(w: &[u64; 8]) -> State
-    ensures { result ≡ state_in w.now }
+// The format word that they hold.
+pub(crate) fn format_in(w: &[u64; 8]) -> Format
+    ensures { result ≡ (state_in w.now).format }
 {
     let lo = w[0];
     let hi = w[1];
+    Format { lo, hi }
+}
+
+// The state that the words hold. The last two are no part of it. Here and in the whole crate u64 and usize are cast:
+// std has no `From` between them.
+pub(crate) fn state_in(w: &[u64; 8]) -> State
+    ensures { result ≡ state_in w.now }
+{
+    let format = format_in(w);
     let cursor = w[2] as usize;
     let integer = w[3] as usize;
     let fraction = w[4] as usize;
     let exponent = w[5] as usize;
     State {
-        format: Format { lo, hi },
+        format,
         cursor,
         integer: IntegerCount(integer),
         fraction: FractionCount(fraction),
@@ -49,7 +58,8 @@ pub(crate) fn put_state(w: &mut [u64; 8], state: State)
     put_words(&mut *w, state, kept, edition);
 }
 
-// The reader that a byte names, on a state that names an edition.
+// The reader that a byte names, on a state that names an edition. Document 01 has one number, 19, for an unknown reader and an unknown
+// edition, and so one error stands for both.
 pub(crate) fn reader_on(reader: u8, edition: u64) -> Result<Reader, UnknownReader>
     ensures { result ≡ ok_or (reader_on reader edition) (record { 0 = reader }) }
 {
@@ -66,7 +76,7 @@ pub extern "C" fn pawhetino_fresh(lo: u64, hi: u64, edition: u64, state: &mut [u
     ensures written { state.new ≡ fresh_words lo hi edition state.old }
 {
     if edition != 0 {
-        return 19;
+        return 19; // document 01's number for an unknown edition
     }
     let opened = open(lo, hi);
     match opened {

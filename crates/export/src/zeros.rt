@@ -51,20 +51,16 @@ pub extern "C" fn pawhetino_skip_zeros(
     ensures moved { state.new ≡ state_words state.old (skipped_by reader state.old s.now).state }
     ensures written { answer.new ≡ zeros_words answer.old (skipped_by reader state.old s.now) }
 {
-    if 2 < reader {
-        return skip_any(&s[..], reader, &mut *state, &mut *answer);
-    }
     let here = found_here(s, reader, &*state);
     match here {
         Here::Byte(b) => {
-            let zero = b == 48;
+            let zero = b == b'0';
             if zero {
                 return skip_any(&s[..], reader, &mut *state, &mut *answer);
             }
-            stay(NO_ZEROS, &mut *state, &mut *answer)
+            stay(NO_ZEROS, &mut *answer)
         }
-        Here::End => stay(NO_ZEROS, &mut *state, &mut *answer),
-        Here::Separator => skip_any(&s[..], reader, &mut *state, &mut *answer),
-        Here::Other => skip_any(&s[..], reader, &mut *state, &mut *answer),
+        Here::End => stay(NO_ZEROS, &mut *answer),
+        Here::Separator | Here::Other => skip_any(&s[..], reader, &mut *state, &mut *answer),
     }
 }

@@ -1,7 +1,6 @@
 -- DEMAND 1: every call answers a result, or one of document 01's numbers, told of its own fault, with nothing taken, nothing passed and
 -- the state that it was given. For every meaning of words, buffer, state and call; nothing is assumed.
-use Rattle.std.specs.Prelude.{Option, Some, None}
-use Rattle.std.proofs.Common.{◌≡◌, ℕ, zero, suc, ◌<◌, Bool, true, false, not, eqb, leb, ◌⊎◌, List, [], ◌∷◌, length, refl, ap, ◌∙◌, inl, inr, arith, eqb-true, leb-false}
+use Rattle.std.proofs.Common.{◌≡◌, ℕ, zero, suc, ◌<◌, Bool, true, false, not, eqb, leb, ◌⊎◌, List, [], ◌∷◌, length, Some, None, Option, refl, ap, ◌∙◌, inl, inr, arith, eqb-true, leb-false}
 use Rattle.word.specs.declared.format_flags.Format.{Format}
 use Rattle.word.specs.Check.{line, first_failing}
 use Rattle.reader.specs.declared.rule.Flags.{Flags}

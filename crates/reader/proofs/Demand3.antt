@@ -1,6 +1,5 @@
 -- DEMAND 3, for every sheet whose word the full check accepts. Nothing else is assumed.
-use Rattle.std.specs.Prelude.{Some}
-use Rattle.std.proofs.Common.{◌≡◌, ℕ, ◌<◌, Bool, true, false, not, ◌&&◌, List, sym, refl, arith}
+use Rattle.std.proofs.Common.{◌≡◌, ℕ, ◌<◌, Bool, true, false, not, ◌&&◌, List, Some, sym, refl, arith}
 use Rattle.word.specs.Word.{flag, digit_separator, mantissa_radix}
 use Rattle.word.specs.Check.{consecutive_alone, full_check}
 use Rattle.word.proofs.feature_format.Accepted.{separator_no_digit, none_alone}

@@ -1,7 +1,6 @@
 -- The proved examples of document 01, A to N: one list and one theorem about the definitions, by computation. Separator `_`, radix 10,
 -- the integer reader, from a fresh state. Assumes nothing.
-use Rattle.std.specs.Prelude.{Option, Some, None}
-use Rattle.std.proofs.Common.{◌≡◌, ℕ, ◌+◌, ◌*◌, ◌^◌, List, [], ◌∷◌, map, refl}
+use Rattle.std.proofs.Common.{◌≡◌, ℕ, ◌+◌, ◌*◌, ◌^◌, List, [], ◌∷◌, map, Some, None, Option, refl}
 use Rattle.word.specs.declared.format_flags.Format.{Format}
 use Rattle.word.specs.Bits.{bit}
 use Rattle.word.specs.Word.{word, field, flag, radix_at}

@@ -1,7 +1,7 @@
 -- An outcome tells the answer, so a contract that gives the outcome gives the whole answer, its case included.
 -- Theorems, used by no function. Assumes nothing.
-use Rattle.std.specs.Prelude.{Option, Some, None, Result, Ok, Err, unwrap_or, option_map}
-use Rattle.std.proofs.Common.{◌≡◌, ℕ, cond, eqb, sym, refl, ap, ◌∙◌, arith}
+use Rattle.std.proofs.Common.{◌≡◌, ℕ, cond, eqb, Some, None, Ok, Err, Option, Result, sym, refl, ap, ◌∙◌}
+use Rattle.std.proofs.lemmas.Option.{none-some, same_Some}
 use Rattle.word.specs.declared.error.Error.{Error}
 use Rattle.reader.specs.declared.open.RefusedWord.{RefusedWord}
 use Rattle.word.proofs.error.Numbers.{number_tells}
@@ -131,15 +131,9 @@ plain_outcome_tells =
     (λ (o : PlainOutcome). record { report = record { found = plain_from o.refusal o.byte; taken = o.taken; passed = o.passed }; cursor = record { cursor = o.cursor } })
     (λ a. ap (λ (x : Result (Option ℕ) PlainRefusal). record { report = record { found = x; taken = a.report.taken; passed = a.report.passed }; cursor = a.cursor }) (plain_back a.report.found))
 
-some_tells : {A : Type 0} {x y : A} → Some x ≡ Some y → x ≡ y
-some_tells {A} {x} {y} e = ap (λ (o : Option A). unwrap_or o x) e
-
-some_or_none : {A : Type 0} (x : A) → Some x ≡ None → ⊥
-some_or_none {A} x e = let z : ◌≡◌ {A = ℕ} 1 0 = ap (λ (o : Option A). unwrap_or (option_map (λ _. 1) o) 0) e in omega arith
-
 -- that of opening a cell: with no state, its number tells the check's answer
 pub open_outcome_tells : (a b : Result State RefusedWord) → open_outcome_of a ≡ open_outcome_of b → a ≡ b
-open_outcome_tells (Ok x) (Ok y) e = ap Ok (some_tells (ap (λ (o : OpenOutcome). o.state) e))
+open_outcome_tells (Ok x) (Ok y) e = ap Ok (same_Some x y (ap (λ (o : OpenOutcome). o.state) e))
 open_outcome_tells (Err x) (Err y) e = ap (λ (r : Error). Err (record { 0 = r })) (number_tells x.0 y.0 (ap (λ (o : OpenOutcome). o.refusal) e))
-open_outcome_tells (Ok x) (Err y) e = absurd (some_or_none x (ap (λ (o : OpenOutcome). o.state) e))
-open_outcome_tells (Err x) (Ok y) e = absurd (some_or_none y (sym (ap (λ (o : OpenOutcome). o.state) e)))
+open_outcome_tells (Ok x) (Err y) e = absurd (none-some x (sym (ap (λ (o : OpenOutcome). o.state) e)))
+open_outcome_tells (Err x) (Ok y) e = absurd (none-some y (ap (λ (o : OpenOutcome). o.state) e))

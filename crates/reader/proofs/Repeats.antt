@@ -1,7 +1,6 @@
 -- A call made again until it answers no byte: how it goes on, and the invariant of a loop over it: for takes to the end, zero
 -- skips, and their refusals. Assumes nothing.
-use Rattle.std.specs.Prelude.{Option, Some, None}
-use Rattle.std.proofs.Common.{◌≡◌, ℕ, zero, suc, ◌+◌, ◌-◌, ◌<◌, ◌≤◌, List, length, sym, refl, ap, ◌∙◌, add_assoc, zero-add, arith}
+use Rattle.std.proofs.Common.{◌≡◌, ℕ, zero, suc, ◌+◌, ◌-◌, ◌<◌, ◌≤◌, List, length, Some, None, Option, sym, refl, ap, ◌∙◌, add_assoc, zero-add, arith}
 use Rattle.reader.specs.declared.state.State.{State}
 use Rattle.reader.specs.Answer.{Outcome}
 use Rattle.reader.specs.Repeat.{plus, until_none, repeated}

@@ -47,7 +47,8 @@ impl<T, E> Answer<Result<T, E>> {
         Answer { report, state }
     }
 
-    // A refused call takes nothing, passes nothing and returns the state that it was given.
+    // A refused call takes nothing, passes nothing and returns the state that it was given. Each call has this as an arm: handing what it does
+    // where it is not refused to one function as a closure would leave as much.
     pub fn refused(error: E, state: State) -> Self
         ensures { result ≡ record { report = record { found = Err error; taken = 0; passed = 0 }; state = state } }
     {
@@ -65,9 +66,6 @@ impl Answer<Seen> {
     pub fn byte(self) -> Option<u8>
         ensures { result ≡ found_in self.report.found }
     {
-        match self.report.found {
-            Ok(byte) => byte,
-            Err(_) => None,
-        }
+        self.report.found.unwrap_or(None)
     }
 }

@@ -5,18 +5,19 @@ ghost use Rattle.reader.specs.Answer.{outcome_of, read_outcome_of, skip_outcome_
 ghost use Rattle.reader.specs.Block.{BlockPart};
 ghost use Rattle.reader.specs.Bytes.{bytes_over, Rest, count_bytes, peek_bytes, next_bytes, next_all_bytes, read_bytes, skip_bytes, take_n_bytes, whole_outcome};
 
-use crate::answer::{Block, Read, Report, Seen, Zeros};
+use crate::answer::{Answer, Block, Read, Report, Seen, Zeros};
 use crate::state::{Reader, Refusal, State};
 use word::byte_set::ByteSet;
 use word::format_flags::Format;
 
-#[derive(Clone, Copy)]
+#[derive(Clone, Copy, Debug, PartialEq, Eq)]
 pub struct Bytes<'a> {
     pub slc: &'a [u8],
     pub state: State,
 }
 
-// The part of a slice from the cursor on; the empty part at its end, for a cursor past that.
+// The part of a slice from the cursor on; the empty part at its end, for a cursor past that. A return for each, since each part stands in
+// another place.
 pub fn rest<'a>(s: &'a [u8], state: State) -> &'a [u8]
     ensures { Rest s.entry state result }
 {
@@ -70,20 +71,26 @@ impl<'a> Bytes<'a> {
         crate::skip::take_n_part(self.slc, self.state, reader, n)
     }
 
+    // Keeps the state that a call returns beside the slice, and hands on the rest of its answer.
+    fn keep<F>(&mut self, answer: Answer<F>) -> Report<F>
+        ensures { (result ≡ answer.report) × ((self.new.state ≡ answer.state) × (self.new.slc ≡ self.old.slc)) }
+    {
+        self.state = answer.state;
+        answer.report
+    }
+
     pub fn peek(&mut self, reader: Reader) -> Report<Seen>
         ensures { (outcome_of (record { report = result; state = self.new.state }) ≡ peek_bytes self.old reader) × (self.new.slc ≡ self.old.slc) }
     {
         let answer = crate::skip::peek(self.slc, self.state, reader);
-        self.state = answer.state;
-        answer.report
+        self.keep(answer)
     }
 
     pub fn next(&mut self, reader: Reader) -> Report<Seen>
         ensures { (outcome_of (record { report = result; state = self.new.state }) ≡ next_bytes self.old reader) × (self.new.slc ≡ self.old.slc) }
     {
         let answer = crate::skip::next(self.slc, self.state, reader);
-        self.state = answer.state;
-        answer.report
+        self.keep(answer)
     }
 
     // Takes to the end of the slice.
@@ -91,32 +98,28 @@ impl<'a> Bytes<'a> {
         ensures { (outcome_of (record { report = result; state = self.new.state }) ≡ next_all_bytes self.old reader) × (self.new.slc ≡ self.old.slc) }
     {
         let answer = crate::skip::next_all(self.slc, self.state, reader);
-        self.state = answer.state;
-        answer.report
+        self.keep(answer)
     }
 
     pub fn skip_zeros(&mut self, reader: Reader) -> Report<Zeros>
         ensures { (skip_outcome_of (record { report = result; state = self.new.state }) ≡ skip_bytes self.old reader) × (self.new.slc ≡ self.old.slc) }
     {
         let answer = crate::iterator::skip_zeros(self.slc, self.state, reader);
-        self.state = answer.state;
-        answer.report
+        self.keep(answer)
     }
 
     pub fn read_if(&mut self, reader: Reader, wanted: ByteSet) -> Report<Result<Read, Refusal>>
         ensures { (read_outcome_of (record { report = result; state = self.new.state }) ≡ read_bytes self.old reader wanted) × (self.new.slc ≡ self.old.slc) }
     {
         let answer = crate::iterator::read_if(self.slc, self.state, reader, wanted);
-        self.state = answer.state;
-        answer.report
+        self.keep(answer)
     }
 
     pub fn take_n(&mut self, reader: Reader, n: usize) -> Report<Block>
         ensures { (block_outcome_of (record { report = result; state = self.new.state }) ≡ take_n_bytes self.old reader n) × (self.new.slc ≡ self.old.slc) }
     {
         let answer = crate::skip::take_n(self.slc, self.state, reader, n);
-        self.state = answer.state;
-        answer.report
+        self.keep(answer)
     }
 }
 

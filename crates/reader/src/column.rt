@@ -3,20 +3,20 @@
 ghost use Rattle.std.specs.Prelude.{◌≡◌, ◌+◌, ◌^◌, ◌<◌, ◌≤◌, min, max, true, length};
 ghost use Rattle.reader.specs.Reading.{reading_with, reading_of};
 ghost use Rattle.reader.specs.State.{fresh_of};
-ghost use Rattle.reader.specs.Calls.{refusal_with, own_count};
-ghost use Rattle.reader.specs.Column.{part_from, add_totals, cell_totals, column_from, column_of, column_outcome_of};
+ghost use Rattle.reader.specs.Calls.{refusal_with};
+ghost use Rattle.reader.specs.Column.{add_totals, cell_totals, column_from, column_of, column_outcome_of};
 ghost use Rattle.reader.specs.Code.OrdinaryCells.{Countable, Ordinary, Stretch, fills_of, is_served, is_quick, passing as passing_of, doubles as doubles_of, before_digits, ordinary_totals};
 
 use crate::pairs::{Pairs, count_pairs};
 use crate::passing::{Syntax, syntax_of};
 use crate::rule::{Neighbour, later_rule};
 use crate::skip::take_run;
-use crate::state::{Reader, Refusal, State, admit, counts_digits};
+use crate::state::{Reader, Refusal, State, admit, counts_digits, own_count};
 use word::digit::char_is_digit_by_table;
 use word::format_flags::Format;
 
 // What is summed over the cells.
-#[derive(Clone, Copy, Debug, PartialEq, Eq)]
+#[derive(Clone, Copy, Debug, Default, PartialEq, Eq)]
 pub struct Totals {
     pub taken: usize,
     pub passed: usize,
@@ -49,7 +49,8 @@ fn add_totals(a: Totals, b: Totals) -> Totals
     }
 }
 
-// The pairs of a separator that is passed once the reader has counted, and the byte behind it.
+// The pairs of a separator that is passed once the reader has counted, and the byte behind it. This and the next two are literals: a maker of
+// all three would be given as many parts.
 fn passing_pairs(syntax: Syntax) -> Pairs
     ensures { result ≡ passing_of syntax }
 {
@@ -109,11 +110,10 @@ fn digit_pairs(syntax: Syntax) -> Pairs
 fn fills(s: &[u8], ends: &[usize]) -> bool
     ensures { result ≡ fills_of s.now ends.now }
 {
-    if ends.len() == 0 {
-        return false;
+    match ends.last() {
+        Some(last) => s.len() <= *last,
+        None => false,
     }
-    let last = ends.len() - 1;
-    s.len() <= ends[last]
 }
 
 // Whether the word and the reader are such that ordinary cells may be counted together.
@@ -143,20 +143,18 @@ fn is_quick(s: &[u8], filled: bool, syntax: Syntax, reader: Reader) -> bool
     count_pairs(double_pairs(syntax), s) == 0
 }
 
-fn is_ordinary(s: &[u8], syntax: Syntax, start: usize, end: usize) -> bool
-    requires { (start ≤ end) × (end ≤ length s.now) }
-    ensures { result ≡ true → Ordinary syntax (part_from s.now start end) }
+fn is_ordinary(s: &[u8], syntax: Syntax) -> bool
+    ensures { result ≡ true → Ordinary syntax s.now }
 {
-    if end <= start {
+    if s.is_empty() {
         return true;
     }
-    let last = end - 1;
-    let first_byte = s[start];
-    let last_byte = s[last];
+    let first_byte = s[0];
+    let last_byte = s[s.len() - 1];
     char_is_digit_by_table(first_byte, syntax.radix) & (last_byte != syntax.separator)
 }
 
-// How far ordinary cells go from the first of these on.
+// How far ordinary cells go from the first of these on. The reader is asked for the contract's sake alone, as is the format below.
 fn past_ordinary(
     s: &[u8],
     ends: &[usize],
@@ -174,7 +172,7 @@ fn past_ordinary(
     let mut at = start;
     for (cell, &given) in ends.iter().enumerate() {
         let end = bound_of(s.len(), at, given);
-        if !is_ordinary(s, syntax, at, end) {
+        if !is_ordinary(&s[at..end], syntax) {
             return Reached { cell, at };
         }
         at = end;
@@ -191,38 +189,15 @@ fn stretch_totals(s: &[u8], syntax: Syntax) -> Totals
 {
     let passed = count_pairs(passing_pairs(syntax), s);
     let taken = s.len() - passed;
-    if taken + passed == 0 {
-        return Totals {
-            taken: 0,
-            passed: 0,
-            digits: 0,
-        };
+    if s.is_empty() {
+        return Totals::default();
     }
-    let behind = count_pairs(digit_pairs(syntax), s);
-    let first = s[0];
-    if char_is_digit_by_table(first, syntax.radix) {
-        return Totals {
-            taken,
-            passed,
-            digits: 1 + behind,
-        };
-    }
+    let begins = char_is_digit_by_table(s[0], syntax.radix);
+    let digits = usize::from(begins) + count_pairs(digit_pairs(syntax), s);
     Totals {
         taken,
         passed,
-        digits: behind,
-    }
-}
-
-// The digits that a reader has counted in a run. The special reader counts nothing.
-fn own_count(reader: Reader, count: usize) -> usize
-    ensures { result ≡ own_count reader count }
-{
-    match reader {
-        Reader::Integer => count,
-        Reader::Fraction => count,
-        Reader::Exponent => count,
-        Reader::Special => 0,
+        digits,
     }
 }
 
@@ -254,11 +229,7 @@ fn column_totals(
     ensures { result ≡ column_from (reading_with syntax) format reader s.now 0 ends.now }
 {
     let quick = is_quick(s, filled, syntax, reader);
-    let mut sums = Totals {
-        taken: 0,
-        passed: 0,
-        digits: 0,
-    };
+    let mut sums = Totals::default();
     let mut left = ends;
     let mut at: usize = 0;
     // No `for`: a stretch goes over several cells at a time.

@@ -59,7 +59,7 @@ pub fn read_if_value_cased(
 ) -> Answer<Result<Read, Refusal>>
     ensures { read_outcome_of result ≡ read_of (reading_for state reader) s.now state reader (λ b. nat_eq b value) }
 {
-    let wanted = ByteSet::from_byte(value);
+    let wanted = ByteSet::from(value);
     read_if(s, state, reader, wanted)
 }
 
@@ -91,11 +91,10 @@ fn place_at(s: &[u8], syntax: Syntax, first: bool, at: usize) -> usize
 fn is_zero_at(s: &[u8], place: usize) -> bool
     ensures { result ≡ (nat_lt place (length s.now) && is_zero (slice_index s.now place)) }
 {
-    if s.len() <= place {
-        return false;
+    match s.get(place) {
+        Some(b) => *b == b'0',
+        None => false,
     }
-    let b = s[place];
-    b == 48
 }
 
 // Reads zeros until a read fails, from a state that is not refused. The loop keeps numbers only, and makes the state at its end; most
@@ -168,7 +167,7 @@ fn skip_zeros_in(s: &[u8], state: State, syntax: Syntax, reader: Reader) -> Answ
 {
     match admit_skip(s, state, syntax.flags, reader) {
         Ok(()) => {
-            if syntax.separator == 48 {
+            if syntax.separator == b'0' {
                 return take_separator_zeros(s, state, syntax, reader);
             }
             take_zeros(s, state, syntax, reader)

@@ -15,7 +15,16 @@ pub struct Cursor {
 #[derive(Clone, Copy, Debug, PartialEq, Eq)]
 pub struct CursorPastEnd;
 
-// What the plain reader sees: a byte, or none at the end.
+impl CursorPastEnd {
+    // Its number in document 01.
+    pub fn number(self) -> u32
+        ensures { result ≡ 16 }
+    {
+        16
+    }
+}
+
+// What the plain reader sees: a byte, or none at the end. Its answer is a type of its own, for its state is a cursor alone.
 pub type Seen = Result<Option<u8>, CursorPastEnd>;
 
 #[derive(Clone, Copy, Debug, PartialEq, Eq)]
@@ -52,8 +61,7 @@ fn taken_of(found: Seen) -> usize
 {
     match found {
         Ok(Some(_)) => 1,
-        Ok(None) => 0,
-        Err(_) => 0,
+        Ok(None) | Err(_) => 0,
     }
 }
 

@@ -10,6 +10,14 @@ use word::format_flags::Format;
 #[derive(Clone, Copy, Debug, PartialEq, Eq)]
 pub struct RefusedWord(pub Error);
 
+impl From<Error> for RefusedWord {
+    ghost from_gives = { λ error word. word ≡ record { 0 = error } };
+
+    fn from(error: Error) -> RefusedWord {
+        RefusedWord(error)
+    }
+}
+
 impl RefusedWord {
     // That line's number in document 01.
     pub fn number(self) -> u32
@@ -23,10 +31,6 @@ pub fn open(lo: u64, hi: u64) -> Result<State, RefusedWord>
     ensures { open_outcome_of result ≡ open_of lo hi }
 {
     let format = Format { lo, hi };
-    let error = format.error();
-    let accepted = error.is_success();
-    if accepted {
-        return Ok(State::fresh(format));
-    }
-    Err(RefusedWord(error))
+    format.check()?;
+    Ok(State::fresh(format))
 }

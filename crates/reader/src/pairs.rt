@@ -6,7 +6,7 @@ ghost use Rattle.reader.specs.Code.Pairs.{matches_of, pairs_of};
 use word::digit::char_is_digit_by_range;
 
 // Which pairs count: those whose first byte is the separator, or all, by the kind of the second byte. A byte that is a digit and the
-// separator at once is a digit here.
+// separator at once is a digit here. Data and no closure: the laws of these counts compare one kind with another.
 #[derive(Clone, Copy, Debug, PartialEq, Eq)]
 pub struct Pairs {
     pub separator: u8,

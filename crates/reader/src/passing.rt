@@ -1,8 +1,8 @@
 // Passing: what a format word says to a reader, and how far the reader's cursor moves over separators at a place. A slice and a place in
-// it stay two arguments: a pair of them would be made anew for each byte, and how far the place may be differs from call to call.
+// it stay two arguments: a pair of them would be made anew for each byte, and how far the place may be differs from call to call. So does
+// what is known of the byte there: that it is the separator is a fact of the caller's compare, and no value carries it.
 ghost use Rattle.std.specs.Prelude.{◌≡◌, ◌+◌, ◌-◌, ◌%◌, ◌^◌, ◌<◌, ◌≤◌, true, false, not, ◌&&◌, length, drop, if◌then◌else◌, ◌==◌, slice_index, Some, None, MatchOption};
 ghost use Rattle.std.specs.Int.NonZero.{non_zero_u8_get};
-ghost use Rattle.word.specs.Word.{mantissa_radix};
 ghost use Rattle.reader.specs.Rule.{rule_of};
 ghost use Rattle.reader.specs.Code.RuleWords.{IsLater};
 ghost use Rattle.reader.specs.Place.{byte_at, before, after, first_other, separator_run, nearest};
@@ -14,7 +14,7 @@ use crate::search::search_from;
 use crate::state::{Reader, State};
 use std::num::NonZeroU8;
 use word::digit::char_is_digit_by_table;
-use word::format_flags::Format;
+use word::format_flags::{Format, mantissa_radix_byte};
 
 // What a format word says to one reader.
 #[derive(Clone, Copy, Debug, PartialEq, Eq)]
@@ -24,8 +24,8 @@ pub struct Syntax {
     pub flags: Flags,
 }
 
-// The same of a word that has a separator: 0 would stand for none.
-#[derive(Clone, Copy)]
+// The same of a word that has a separator: 0 would stand for none. Not one type over the separator's: each definition speaks of a syntax.
+#[derive(Clone, Copy, Debug, PartialEq, Eq)]
 pub struct Separated {
     pub separator: NonZeroU8,
     pub radix: u8,
@@ -90,20 +90,13 @@ pub(crate) fn flags_of(format: Format, reader: Reader) -> Flags
     }
 }
 
-// The mantissa radix as the byte that it is in the word.
-fn radix_of(format: Format) -> u8
-    ensures { result ≡ mantissa_radix format }
-{
-    (format.mantissa_radix() % 256) as u8
-}
-
 pub(crate) fn syntax_of(format: Format, reader: Reader) -> Syntax
     ensures { result ≡ syntax_of format reader }
 {
     let flags = flags_of(format, reader);
     Syntax {
         separator: format.digit_separator(),
-        radix: radix_of(format),
+        radix: mantissa_radix_byte(format),
         flags,
     }
 }
@@ -141,18 +134,17 @@ fn neighbour(syntax: Syntax, b: u8) -> Neighbour
 fn neighbour_at(s: &[u8], syntax: Syntax, i: usize) -> Neighbour
     ensures { result ≡ neighbour_of (reading_with syntax) (byte_at s.now i) }
 {
-    if i < s.len() {
-        let b = s[i];
-        return neighbour(syntax, b);
+    match s.get(i) {
+        Some(b) => neighbour(syntax, *b),
+        None => absent(),
     }
-    absent()
 }
 
 // The index before a place. Before place 0 it wraps, lies past every buffer and so finds no byte.
 fn index_before(at: usize) -> usize
     ensures { result ≡ (at + (2 ^ 64 - 1)) % 2 ^ 64 }
 {
-    std::num::wrapping_sub_usize(at, 1)
+    at.wrapping_sub(1)
 }
 
 // The index of the nearest byte before a place that is no separator. By index and no iterator backwards: document 01 wants the previous
@@ -245,11 +237,7 @@ pub(crate) fn landing(s: &[u8], syntax: Syntax, first: bool, at: usize) -> usize
     if !may {
         return at;
     }
-    let run = separated.flags.consecutive;
-    if run {
-        return run_end(s, separated.separator, at);
-    }
-    at + 1
+    behind(s, separated, at)
 }
 
 // Where the byte behind a separator stands that its rule looks at; it is also where a cursor lands that passes there.

@@ -17,18 +17,20 @@ pub struct Flags {
     pub consecutive: bool,
 }
 
-// Whether the reader has any flag.
-pub(crate) fn has_any(flags: Flags) -> bool
-    ensures { result ≡ has_any_flag flags }
-{
-    flags.internal | flags.leading | flags.trailing | flags.consecutive
-}
+impl Flags {
+    // Whether the reader has any flag.
+    pub fn has_any(self) -> bool
+        ensures { result ≡ has_any_flag self }
+    {
+        self.internal | self.leading | self.trailing | self.consecutive
+    }
 
-// Whether its consecutive flag is all it has.
-pub(crate) fn is_consecutive_alone(flags: Flags) -> bool
-    ensures { result ≡ is_consecutive_alone flags }
-{
-    flags.consecutive & !flags.internal & !flags.leading & !flags.trailing
+    // Whether its consecutive flag is all it has.
+    pub fn is_consecutive_alone(self) -> bool
+        ensures { result ≡ is_consecutive_alone self }
+    {
+        self.consecutive & !self.internal & !self.leading & !self.trailing
+    }
 }
 
 // What a rule asks of a separator's neighbour. No Option: the rules ask for a digit or a separator also where there is no neighbour,

@@ -1,5 +1,5 @@
 // The search for the end of a run of separators: eight bytes at a time, the tail singly, with its steps counted.
-ghost use Rattle.std.specs.Prelude.{◌≡◌, ◌+◌, ◌*◌, ◌/◌, ◌≤◌, length, drop};
+ghost use Rattle.std.specs.Prelude.{◌≡◌, ◌+◌, ◌*◌, ◌/◌, ◌≤◌, length};
 ghost use Rattle.std.specs.Int.NonZero.{non_zero_u8_get};
 ghost use Rattle.reader.specs.Place.{separator_run};
 ghost use Rattle.reader.specs.Search.{run_search_of};

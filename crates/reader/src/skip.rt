@@ -4,7 +4,7 @@ ghost use Rattle.word.specs.Digit.{is_digit};
 ghost use Rattle.word.specs.Word.{digit_separator, mantissa_radix};
 ghost use Rattle.reader.specs.Place.{is_separator};
 ghost use Rattle.reader.specs.Reading.{reading_with, reading_for};
-ghost use Rattle.reader.specs.State.{count_of, count_sum};
+ghost use Rattle.reader.specs.State.{count_sum};
 ghost use Rattle.reader.specs.Code.Looks.{look_outcome, LookFits};
 ghost use Rattle.reader.specs.Code.TakeSums.{take_sums_from};
 ghost use Rattle.reader.specs.Answer.{outcome_of, count_outcome_of, block_outcome_of};
@@ -13,10 +13,10 @@ ghost use Rattle.reader.specs.Block.{block_from, take_n_of, BlockPart};
 
 use crate::answer::{Answer, Block, Seen};
 use crate::passing::{Syntax, landing, past_taken, separator_landing, syntax_for};
-use crate::rule::{Flags, has_any, later_rule};
+use crate::rule::{Flags, later_rule};
 use crate::state::{
     Reader, Refusal, State, admit, admit_block, admit_place, counted, counts_digits, moved,
-    with_count,
+    own_count, with_count,
 };
 use word::digit::char_is_digit_by_table;
 use word::format_flags::Format;
@@ -50,7 +50,8 @@ pub fn is_digit_separator(format: Format, c: u8) -> bool
     (separator != 0) & (c == separator)
 }
 
-// Passes what the reader may pass at the cursor, and looks at the byte then under it. All calls begin so.
+// Passes what the reader may pass at the cursor, and looks at the byte then under it. All calls begin so. Slice, state, syntax and reader
+// stay four arguments of the functions below: a call makes its syntax once, and only few of them are about all four.
 pub(crate) fn look(s: &[u8], state: State, syntax: Syntax, reader: Reader) -> Result<Sight, Refusal>
     ensures outcome { look_outcome state result ≡ peek_of (reading_with syntax) s.now state reader }
     ensures fits { LookFits s.now state result }
@@ -76,7 +77,7 @@ fn look_past(s: &[u8], state: State, syntax: Syntax, reader: Reader) -> Sight
     }
 }
 
-// A peek given the reader's syntax.
+// A peek given the reader's syntax. The laws of the calls are about a syntax, whatever word it comes from; so each call has such a part.
 fn peek_in(s: &[u8], state: State, syntax: Syntax, reader: Reader) -> Answer<Seen>
     ensures { outcome_of result ≡ peek_of (reading_with syntax) s.now state reader }
 {
@@ -100,13 +101,13 @@ fn past_byte(state: State, syntax: Syntax, reader: Reader, b: u8) -> State
     ensures { result ≡ taken_from (reading_with syntax) reader b state }
 {
     let next = moved(state, state.cursor + 1);
-    if has_any(syntax.flags) & char_is_digit_by_table(b, syntax.radix) {
+    if syntax.flags.has_any() & char_is_digit_by_table(b, syntax.radix) {
         return counted(next, reader);
     }
     next
 }
 
-// A take given the reader's syntax, for calls that take many bytes.
+// A take given the reader's syntax.
 fn next_in(s: &[u8], state: State, syntax: Syntax, reader: Reader) -> Answer<Seen>
     ensures { outcome_of result ≡ next_of (reading_with syntax) s.now state reader }
 {
@@ -255,15 +256,10 @@ fn shown_count(state: State, syntax: Syntax, reader: Reader) -> usize
     requires { count_sum state < 2 ^ 64 }
     ensures { result ≡ shown_count (reading_with syntax) state reader }
 {
-    if has_any(syntax.flags) {
+    if syntax.flags.has_any() {
         return state.count(reader);
     }
-    match reader {
-        Reader::Special => 0,
-        Reader::Integer => unflagged_count(state, syntax.separator),
-        Reader::Fraction => unflagged_count(state, syntax.separator),
-        Reader::Exponent => unflagged_count(state, syntax.separator),
-    }
+    own_count(reader, unflagged_count(state, syntax.separator))
 }
 
 // How many digits the reader has counted, as the crate shows it.
@@ -287,7 +283,7 @@ fn block_from(s: &[u8], state: State, flags: Flags, n: usize) -> Answer<Block>
     requires { state.cursor ≤ length s.now }
     ensures { block_outcome_of result ≡ block_from flags s.now state n }
 {
-    if has_any(flags) {
+    if flags.has_any() {
         return Answer::new(None, 0, 0, state);
     }
     let cursor = state.cursor;
@@ -317,6 +313,7 @@ pub fn take_n_part(s: &[u8], state: State, reader: Reader, n: usize) -> &[u8]
             let end = answer.state.cursor;
             &s[start..end]
         }
+        // Two arms, for the proof asks which it is.
         Ok(None) => &s[0..0],
         Err(_) => &s[0..0],
     }

@@ -3,11 +3,11 @@ ghost use Rattle.std.specs.Prelude.{◌≡◌, ◌+◌, ◌^◌, ◌<◌, nat_le
 ghost use Rattle.reader.specs.State.{reader_named, fresh_of, is_counted, count_of, count_sum, moved_to, counted_by};
 ghost use Rattle.reader.specs.Code.TakeSums.{counts_digits, with_count};
 ghost use Rattle.reader.specs.Answer.{number_of, refusal_in};
-ghost use Rattle.reader.specs.Calls.{line18, consecutive_number, line_consecutive, place_refusal, refusal_with};
+ghost use Rattle.reader.specs.Calls.{own_count, line18, consecutive_number, line_consecutive, place_refusal, refusal_with};
 ghost use Rattle.reader.specs.ZeroSkip.{skip_refusal};
 ghost use Rattle.reader.specs.Block.{block_refusal};
 
-use crate::rule::{Flags, has_any, is_consecutive_alone};
+use crate::rule::Flags;
 use word::format_flags::Format;
 
 // Who reads: the three readers of digits, each with flags and a count of its own, and the reader of special values.
@@ -22,6 +22,15 @@ pub enum Reader {
 // A number that names no reader.
 #[derive(Clone, Copy, Debug, PartialEq, Eq)]
 pub struct UnknownReader(pub u8);
+
+impl UnknownReader {
+    // Its number in document 01.
+    pub fn number(self) -> u32
+        ensures { result ≡ 19 }
+    {
+        19
+    }
+}
 
 // The digits counted by each reader: a type each, so that none stands for another.
 #[derive(Clone, Copy, Debug, PartialEq, Eq)]
@@ -54,11 +63,30 @@ pub enum Refusal {
 }
 
 impl Refusal {
-    // Its number in document 01.
+    // Its number in document 01. `as` of an enum is its own number.
     pub fn number(self) -> u32
         ensures { result ≡ number_of self }
     {
         self as u32
+    }
+}
+
+// An error that has a number in the office's log: for functions over every kind of refusal. Each has it as `number` too, for callers that
+// know the type.
+pub trait Numbered {
+    ghost use Rattle.std.specs.Prelude.{ℕ};
+
+    ghost number_as: { Self → ℕ };
+
+    fn told_number(self) -> u32
+        ensures { result ≡ number_as self };
+}
+
+impl Numbered for Refusal {
+    ghost number_as = { number_of };
+
+    fn told_number(self) -> u32 {
+        self.number()
     }
 }
 
@@ -67,6 +95,7 @@ impl TryFrom<u8> for Reader {
 
     ghost try_from_gives = { λ number r. r ≡ ok_or (reader_named number) (record { 0 = number }) };
 
+    #[tactic(auto, unfolding(crate::specs::State::reader_named))]
     fn try_from(number: u8) -> Result<Self, UnknownReader> {
         match number {
             0 => Ok(Reader::Integer),
@@ -93,6 +122,7 @@ impl State {
     }
 
     // The reader's own count.
+    #[tactic(auto, unfolding(crate::specs::State::count_of))]
     pub fn count(self, reader: Reader) -> usize
         ensures { result ≡ count_of self reader }
     {
@@ -105,7 +135,9 @@ impl State {
     }
 }
 
-// The same state with its cursor at another place.
+// The same state with its cursor at another place. This and what follows take their state or reader first and are no methods: they read alike
+// either way, and the proofs and pages name them so.
+#[tactic(auto, unfolding(crate::specs::State::moved_to))]
 pub fn moved(state: State, cursor: usize) -> State
     ensures { result ≡ moved_to state cursor }
 {
@@ -117,24 +149,11 @@ pub(crate) fn counted(state: State, reader: Reader) -> State
     requires { count_sum state + 1 < 2 ^ 64 }
     ensures { result ≡ counted_by state reader }
 {
-    match reader {
-        Reader::Integer => State {
-            integer: IntegerCount(state.integer.0 + 1),
-            ..state
-        },
-        Reader::Fraction => State {
-            fraction: FractionCount(state.fraction.0 + 1),
-            ..state
-        },
-        Reader::Exponent => State {
-            exponent: ExponentCount(state.exponent.0 + 1),
-            ..state
-        },
-        Reader::Special => state,
-    }
+    with_count(state, reader, state.count(reader) + 1)
 }
 
 // The same state with another count for the reader.
+#[tactic(auto, unfolding(crate::specs::Code::TakeSums::with_count))]
 pub fn with_count(state: State, reader: Reader, count: usize) -> State
     ensures { result ≡ with_count state reader count }
 {
@@ -155,7 +174,17 @@ pub fn with_count(state: State, reader: Reader, count: usize) -> State
     }
 }
 
-// The special reader counts nothing.
+// A reader's count. The special reader counts nothing.
+pub(crate) fn own_count(reader: Reader, count: usize) -> usize
+    ensures { result ≡ own_count reader count }
+{
+    match reader {
+        Reader::Integer | Reader::Fraction | Reader::Exponent => count,
+        Reader::Special => 0,
+    }
+}
+
+// Whether it counts at all.
 fn is_counted(reader: Reader) -> bool
     ensures { result ≡ is_counted reader }
 {
@@ -166,7 +195,7 @@ fn is_counted(reader: Reader) -> bool
 pub(crate) fn counts_digits(flags: Flags, reader: Reader) -> bool
     ensures { result ≡ counts_digits flags reader }
 {
-    has_any(flags) & is_counted(reader)
+    flags.has_any() & is_counted(reader)
 }
 
 // Whether the counts together are within the cursor. Nothing is added up, so nothing can overflow.
@@ -224,7 +253,7 @@ fn consecutive_refusal(reader: Reader) -> Result<(), Refusal>
 fn admit_flags(flags: Flags, reader: Reader) -> Result<(), Refusal>
     ensures { refusal_in result ≡ line_consecutive flags reader }
 {
-    let alone = is_consecutive_alone(flags);
+    let alone = flags.is_consecutive_alone();
     if alone {
         return consecutive_refusal(reader);
     }

@@ -18,8 +18,9 @@ use Rattle.script.specs.declared.stream.StreamError.TheVariants.{CannotRead, Can
 use Rattle.script.specs.Run.{Run, gathering, stopped, run_in}
 use Rattle.script.specs.Script.{output_from, output_of}
 use Rattle.script.specs.Stream.{Prints, Leads, Turns, first_start, Reads, behind_read, FollowsBy, Follows, piece_behind, History, begins, goes_on, LastTurn, last, joined, Ran, RanTo, Ends}
-use Rattle.script.proofs.answer.Prefixes.{drop_all}
-use Rattle.script.proofs.answer.Records.{false_no, stopped_prints_nothing}
+use Rattle.std.proofs.lemmas.List.{drop_all}
+use Rattle.std.proofs.lemmas.Bool.{false≢true}
+use Rattle.script.proofs.answer.Records.{stopped_prints_nothing}
 use Rattle.script.proofs.stream.Pieces.{came_behind}
 
 start_of : Result (Option Start) StreamError → Start
@@ -46,7 +47,7 @@ unfolding code_of
 not_over s e = told_apart e (λ no. omega (arith, no))
 
 not_failed : (came : Option Start) (error : StreamError) → ◌≡◌ {A = Result (Option Start) StreamError} (Ok came) (Err error) → ⊥
-not_failed came error e = let no : true ≡ false = ap is_ok e in absurd (false_no (sym no))
+not_failed came error e = let no : true ≡ false = ap is_ok e in absurd (false≢true (sym no))
 
 read_or_write : ◌≡◌ {A = Result (Option Start) StreamError} (Err CannotRead) (Err CannotWrite) → ⊥
 unfolding code_of
@@ -103,7 +104,7 @@ continues_read (Ok (Some filled)) turn ended buffer buffer' start more reads e =
       kept = omega (arith, behind.0, f);
       within = λ inside. omega (arith, behind.1 inside, f);
       same = reads.same;
-      stays = λ closed. absurd (false_no (sym more ∙ closed));
+      stays = λ closed. absurd (false≢true (sym more ∙ closed));
     }
 continues_read (Ok None) turn ended buffer buffer' start more reads e =
     let s : start ≡ record { stage = turn.stage; filled = turn.kept; ended = true } = on_same start _ e in
@@ -113,7 +114,7 @@ continues_read (Ok None) turn ended buffer buffer' start more reads e =
       kept = omega (arith, f);
       within = λ inside. omega (arith, inside, f);
       same = reads.same;
-      stays = λ closed. absurd (false_no (sym more ∙ closed));
+      stays = λ closed. absurd (false≢true (sym more ∙ closed));
     }
 continues_read (Err error) turn ended buffer buffer' start more reads e = absurd (not_failed _ error e)
 
@@ -144,7 +145,7 @@ behind kept filled buffer buffer' order same =
     ap (λ (l : List ℕ). l ++ drop kept (take filled buffer')) (sym same ∙ sym (take-take kept filled buffer' order)) ∙ take-append-drop kept (take filled buffer')
 
 none_behind : (kept filled : ℕ) (buffer : List ℕ) → filled ≡ kept → drop kept (take filled buffer) ≡ []
-none_behind kept filled buffer e = drop_all (take filled buffer) kept (simp length-take (omega (arith, e)))
+none_behind kept filled buffer e = drop_all kept (take filled buffer) (simp length-take (omega (arith, e)))
 
 module _ (start start' : Start) (text text' buffer buffer' buffer'' out came printed : List ℕ) (turn : Turn)
     (before : Prints start.ended came (gathering []) printed (take start.filled buffer) (run_in text start.stage))

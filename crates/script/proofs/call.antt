@@ -1,2 +1,2 @@
--- What a refused call shows (src/call.rt).
-mod Refused
+-- What an answer shows (src/call.rt).
+mod Replies

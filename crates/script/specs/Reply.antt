@@ -1,9 +1,11 @@
 -- The line that a call prints (document 01, "Call script"), from the answer that the reader's contracts promise. Assumes nothing.
-use Rattle.std.specs.Prelude.{ℕ, cond, List, [], ◌∷◌, ◌==◌, Option, Some, None, Result}
+use Rattle.std.specs.Prelude.{ℕ, cond, List, [], ◌∷◌, ◌==◌, Option, Some, None, Result, Ok, Err}
 use Rattle.reader.specs.declared.state.Reader.{Reader}
 use Rattle.reader.specs.declared.state.Refusal.{Refusal}
+use Rattle.reader.specs.declared.answer.Answer.{Answer}
 use Rattle.reader.specs.declared.answer.Read.{Read}
-use Rattle.reader.specs.Answer.{refusal_in, answer_in, found_in, read_byte, Outcome, SkipOutcome, BlockOutcome}
+use Rattle.reader.specs.declared.answer.Read.TheVariants as read
+use Rattle.reader.specs.Answer.{number_of, Outcome, SkipOutcome, BlockOutcome}
 use Rattle.reader.specs.History.{Answered, peek_answered, take_answered, read_answered, skip_answered, block_answered}
 use Rattle.reader.specs.History as history
 use Rattle.script.specs.declared.record.Call.{Call}
@@ -36,18 +38,23 @@ block_shown (Some n) = shown.Dash
 abbrev pub or_refused : ℕ → Shown → Shown
 or_refused number answer = cond (number == 0) answer (shown.Refused number)
 
--- by what a call found
-abbrev pub seen_shown : Result (Option ℕ) Refusal → Shown
-seen_shown found = or_refused (refusal_in found) (number_shown (found_in found))
+-- the same of what a read did, and of a count of zeros
+abbrev pub read_shown : Read → Shown
+read_shown (read.Taken b) = shown.Number b
+read_shown (read.Declined b) = shown.Dash
+read_shown read.End = shown.Dash
 
-abbrev pub read_shown : Result Read Refusal → Shown
-read_shown found = or_refused (refusal_in found) (number_shown (read_byte found))
+abbrev pub zeros_shown : ℕ → Shown
+zeros_shown n = shown.Number n
 
-abbrev pub zeros_shown : Result ℕ Refusal → Shown
-zeros_shown found = or_refused (refusal_in found) (number_shown (answer_in found))
+-- of what a call found, or why it is refused
+abbrev pub shown_in : {A : Type 0} → (A → Shown) → Result A Refusal → Shown
+shown_in shows (Ok found) = shows found
+shown_in shows (Err e) = shown.Refused (number_of e)
 
-abbrev pub taken_shown : Result (Option ℕ) Refusal → Shown
-taken_shown found = or_refused (refusal_in found) (block_shown (found_in found))
+abbrev pub replied_as : {A : Type 0} → (A → Shown) → Answer (Result A Refusal) → Reply
+replied_as shows a =
+    record { shown = shown_in shows a.report.found; taken = a.report.taken; passed = a.report.passed; state = a.state }
 
 unfoldable pub outcome_reply : Outcome → Reply
 outcome_reply o =

@@ -77,12 +77,7 @@ answer_call text call reply = record { line = reply_line call reply; run = opene
 unfoldable pub call_response : List ℕ → State → Reader → Call → Response
 call_response text st r call = answer_call text call (reply_of (answer_to reading_on text st (call_by call r)))
 
--- a byte above 3 names no reader
-abbrev pub named : Option Reader → Result Reader Refusal
-named None = Err refusal.Unknown
-named (Some r) = Ok r
-
--- a reader byte above 3 is refused before the turn is asked
+-- a byte above 3 names no reader, and is refused before the turn is asked
 abbrev pub gathering_call : Option Reader → Response
 gathering_call None = stops refusal.Unknown
 gathering_call (Some r) = stops refusal.OutOfTurn

@@ -8,7 +8,7 @@ use crate::record::{Kind, record_behind, size_behind};
 use crate::run::{MOST_TEXT, Stage, respond};
 
 // How far a part of the input is answered: how far the run is, how many bytes of the part were read and how many of the buffer written.
-#[derive(Clone, Copy)]
+#[derive(Clone, Copy, Debug, PartialEq, Eq)]
 pub struct Progress {
     pub stage: Stage,
     pub used: usize,
@@ -64,7 +64,7 @@ pub(crate) fn answer(
         let response = respond(text, stage, asked, out, end);
         stage = response.stage;
         end = response.end;
-        rest = &body[there.min(size)..];
+        rest = &body[size.min(there)..];
     }
     Progress {
         stage,

@@ -3,10 +3,10 @@ ghost use Rattle.std.specs.Prelude.{◌≡◌, [], ◌∷◌};
 ghost use Rattle.reader.specs.Reading.{reading_on};
 ghost use Rattle.reader.specs.History.{answer_to};
 ghost use Rattle.script.specs.Decimal.{decimal};
-ghost use Rattle.script.specs.Reply.{call_by, call_number, seen_shown, read_shown, zeros_shown, taken_shown, reply_of};
+ghost use Rattle.script.specs.Reply.{call_by, call_number, number_shown, block_shown, read_shown, zeros_shown, shown_in, replied_as, reply_of};
 
 use crate::record::Call;
-use reader::answer::{Answer, Block, Read, Seen, Zeros};
+use reader::answer::{Answer, Read};
 use reader::iterator::{read_if_value_cased, skip_zeros};
 use reader::skip::{next, peek, take_n};
 use reader::state::{Reader, Refusal, State};
@@ -39,60 +39,64 @@ trait Shows {
         ensures { result ≡ shown self };
 }
 
-impl Shows for Seen {
-    ghost shown = { seen_shown };
+impl Shows for Option<u8> {
+    ghost shown = { number_shown };
 
     fn shown(self) -> Shown {
         match self {
-            Ok(Some(b)) => Shown::Number(usize::from(b)),
-            Ok(None) => Shown::Dash,
-            Err(refusal) => Shown::Refused(refusal.number()),
+            Some(b) => Shown::Number(usize::from(b)),
+            None => Shown::Dash,
         }
     }
 }
 
-impl Shows for Result<Read, Refusal> {
+impl Shows for Read {
     ghost shown = { read_shown };
 
     fn shown(self) -> Shown {
         match self {
-            Ok(Read::Taken(b)) => Shown::Number(usize::from(b)),
-            Ok(Read::Declined(_)) => Shown::Dash,
-            Ok(Read::End) => Shown::Dash,
-            Err(refusal) => Shown::Refused(refusal.number()),
+            Read::Taken(b) => Shown::Number(usize::from(b)),
+            Read::Declined(_) | Read::End => Shown::Dash,
         }
     }
 }
 
-impl Shows for Zeros {
+// How many zeros.
+impl Shows for usize {
     ghost shown = { zeros_shown };
 
     fn shown(self) -> Shown {
-        match self {
-            Ok(zeros) => Shown::Number(zeros),
-            Err(refusal) => Shown::Refused(refusal.number()),
-        }
+        Shown::Number(self)
     }
 }
 
-impl Shows for Block {
-    ghost shown = { taken_shown };
+// How long a block is, if there is one.
+impl Shows for Option<usize> {
+    ghost shown = { block_shown };
 
     fn shown(self) -> Shown {
         match self {
-            Ok(Some(_)) => Shown::Dash,
-            Ok(None) => Shown::NoBlock,
-            Err(refusal) => Shown::Refused(refusal.number()),
+            Some(_) => Shown::Dash,
+            None => Shown::NoBlock,
         }
     }
 }
 
-fn replied<F: Shows>(a: Answer<F>) -> Reply
-    ensures { result ≡ record { shown = F.shown a.report.found; taken = a.report.taken; passed = a.report.passed; state = a.state } }
+fn shown_of<T: Shows>(found: Result<T, Refusal>) -> Shown
+    ensures { result ≡ shown_in T.shown found }
+{
+    match found {
+        Ok(found) => found.shown(),
+        Err(refusal) => Shown::Refused(refusal.number()),
+    }
+}
+
+fn replied<T: Shows>(a: Answer<Result<T, Refusal>>) -> Reply
+    ensures { result ≡ replied_as T.shown a }
 {
     let report = a.report;
     Reply {
-        shown: report.found.shown(),
+        shown: shown_of(report.found),
         taken: report.taken,
         passed: report.passed,
         state: a.state,
@@ -113,14 +117,15 @@ pub fn reply_to(text: &[u8], state: State, who: Reader, call: Call) -> Reply
 }
 
 // The digit of the call's kind, which begins its line.
+#[tactic(auto, unfolding(crate::specs::Decimal::decimal))]
 pub fn kind_digit(call: Call) -> u8
     ensures { decimal (call_number call) ≡ result ∷ [] }
 {
     match call {
         Call::Peek => b'2',
         Call::Take => b'3',
-        Call::Read(value) => b'4',
+        Call::Read(_) => b'4',
         Call::ZeroSkip => b'5',
-        Call::Block(n) => b'6',
+        Call::Block(_) => b'6',
     }
 }

@@ -82,7 +82,8 @@ pub(crate) fn refusal_line(out: &mut [u8], at: usize, n: usize) -> usize
     put(out, end, b'\n')
 }
 
-// ` none` and the line's end.
+// ` none` and the line's end. Here and in `dash_field` byte by byte: a literal's copy tests first whether the two overlap, and a line took
+// a tenth longer.
 fn none_field(out: &mut [u8], at: usize) -> usize
     requires { at + 6 ≤ length out.old }
     ensures { Wrote out.old at (behind ((110 ∷ 111 ∷ 110 ∷ 101 ∷ []) ∷ [])) out.new result }

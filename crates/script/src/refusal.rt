@@ -2,13 +2,14 @@
 ghost use Rattle.std.specs.Prelude.{◌≡◌};
 ghost use Rattle.script.specs.Run.{refusal_number};
 
+// With their numbers in document 01.
 #[derive(Clone, Copy, Debug, PartialEq, Eq)]
 pub enum Refusal {
     // The kind, or a reader byte.
-    Unknown,
-    CutShort,
-    OutOfTurn,
-    TextFull,
+    Unknown = 19,
+    CutShort = 20,
+    OutOfTurn = 21,
+    TextFull = 22,
 }
 
 impl Refusal {
@@ -16,11 +17,6 @@ impl Refusal {
     pub fn number(self) -> u32
         ensures { result ≡ refusal_number self }
     {
-        match self {
-            Refusal::Unknown => 19,
-            Refusal::CutShort => 20,
-            Refusal::OutOfTurn => 21,
-            Refusal::TextFull => 22,
-        }
+        self as u32
     }
 }

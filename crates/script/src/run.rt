@@ -1,8 +1,7 @@
 // A run of a call script: what it answers to one record.
 ghost use Rattle.std.specs.Prelude.{◌≡◌, List, ℕ, ◌+◌, ◌≤◌, length, take};
 ghost use Rattle.script.specs.Line.{longest_line};
-ghost use Rattle.script.specs.Run.{run_in, stops, add_text, open_text, call_response, named, gathering_response, opened_response, respond as respond·, Responds, Allows};
-ghost use Rattle.reader.specs.State.{reader_named};
+ghost use Rattle.script.specs.Run.{run_in, stops, add_text, open_text, call_response, gathering_response, opened_response, respond as respond·, Responds, Allows};
 
 use crate::call::reply_to;
 use crate::line::{open_line, refusal_line, reply_line};
@@ -15,7 +14,7 @@ use reader::state::{Reader, State};
 pub const MOST_TEXT: usize = 4096;
 
 // How far a run is. How much text there is stands here and not beside the buffer, since a run that is stopped has none.
-#[derive(Clone, Copy)]
+#[derive(Clone, Copy, Debug, PartialEq, Eq)]
 pub enum Stage {
     // How many bytes of text there are.
     Gathering(usize),
@@ -25,7 +24,7 @@ pub enum Stage {
 }
 
 // The stage behind a record, and where its line ends in the buffer.
-#[derive(Clone, Copy)]
+#[derive(Clone, Copy, Debug, PartialEq, Eq)]
 pub struct Response {
     pub stage: Stage,
     pub end: usize,
@@ -71,16 +70,6 @@ fn open_text(n: usize, lo: u64, hi: u64, out: &mut [u8], at: usize) -> Response
     }
 }
 
-// The reader that a byte names.
-fn named(by: u8) -> Result<Reader, Refusal>
-    ensures { result ≡ named (reader_named by) }
-{
-    match Reader::try_from(by) {
-        Ok(reader) => Ok(reader),
-        Err(_) => Err(Refusal::Unknown),
-    }
-}
-
 // A record before an accepted open. A call's reader byte is judged before the turn.
 fn gathering_response(
     text: &mut [u8; MOST_TEXT],
@@ -96,7 +85,8 @@ fn gathering_response(
         Record::Text(b) => add_text(text, n, b, at),
         Record::Open(lo, hi) => Ok(open_text(n, lo, hi, out, at)),
         Record::Call(by, _) => {
-            named(by)?;
+            // Here and below by hand: with a `From` for a plain `?` a line took up to a tenth longer.
+            Reader::try_from(by).map_err(|_| Refusal::Unknown)?;
             Err(Refusal::OutOfTurn)
         }
     }
@@ -137,7 +127,7 @@ fn opened_response(
     match asked {
         Record::Text(_) | Record::Open(_, _) => Err(Refusal::OutOfTurn),
         Record::Call(by, call) => {
-            let reader = named(by)?;
+            let reader = Reader::try_from(by).map_err(|_| Refusal::Unknown)?;
             Ok(call_line(text, n, state, reader, call, out, at))
         }
     }

@@ -10,7 +10,7 @@ use std::io::{Read, Stdin, Stdout};
 
 // What a turn begins with: how far the run is, how many bytes at the buffer's start have arrived and are not answered, and whether the
 // input has ended. The count does not stand in one struct with the buffer, which is lent: between turns it goes by value.
-#[derive(Clone, Copy)]
+#[derive(Clone, Copy, Debug, PartialEq, Eq)]
 pub struct Start {
     pub stage: Stage,
     pub filled: usize,
@@ -27,7 +27,7 @@ pub enum Next {
 
 // A turn: how far the run is, how many bytes are kept at the buffer's start, how many bytes of lines there are to write, and what is
 // to be done then.
-#[derive(Clone, Copy)]
+#[derive(Clone, Copy, Debug, PartialEq, Eq)]
 pub struct Turn {
     pub stage: Stage,
     pub kept: usize,
@@ -144,18 +144,10 @@ fn read_more(input: Stdin, buffer: &mut [u8], kept: usize) -> Result<Option<usiz
 fn after_read(turn: Turn, came: Option<usize>) -> Start
     ensures { result ≡ after_read turn came }
 {
-    let stage = turn.stage;
-    match came {
-        Some(filled) => Start {
-            stage,
-            filled,
-            ended: false,
-        },
-        None => Start {
-            stage,
-            filled: turn.kept,
-            ended: true,
-        },
+    Start {
+        stage: turn.stage,
+        filled: came.unwrap_or(turn.kept),
+        ended: came.is_none(),
     }
 }
 

@@ -1,18 +1,18 @@
 -- A recorded call of a reader: what its packed numbers ask, and how an answer is packed. Assumes nothing.
-use Rattle.std.specs.Prelude.{ℕ, cond, List, [], ◌∷◌, eqb, ◌==◌, nat_le, length, take, Option, Some, None, Result}
+use Rattle.std.specs.Prelude.{ℕ, cond, List, [], ◌∷◌, eqb, ◌==◌, nat_le, length, take, Option, Some, None, Result, Ok, Err}
 use Rattle.word.specs.declared.format_flags.Format.{Format}
 use Rattle.reader.specs.declared.state.Reader.{Reader}
 use Rattle.reader.specs.declared.state.State.{State}
 use Rattle.reader.specs.State.{reader_named}
-use Rattle.reader.specs.declared.state.Refusal.{Refusal}
+use Rattle.reader.specs.declared.answer.Answer.{Answer}
 use Rattle.reader.specs.declared.answer.Read.{Read}
-use Rattle.reader.specs.Answer.{refusal_in, answer_in, found_in, read_byte, read_seen, Outcome, ReadOutcome, SkipOutcome, BlockOutcome}
+use Rattle.reader.specs.declared.answer.Read.TheVariants as read
+use Rattle.reader.specs.Answer.{Outcome, ReadOutcome, SkipOutcome, BlockOutcome}
 use Rattle.reader.specs.Reading.{syntax_for, reading_for}
 use Rattle.reader.specs.Calls.{peek_of, next_of, read_of, next_all_of}
 use Rattle.reader.specs.ZeroSkip.{skip_zeros_of}
 use Rattle.reader.specs.Block.{take_n_of, take_n_part}
-use Rattle.cells.specs.declared.digit_run.RunError.{RunError}
-use Rattle.cells.specs.DigitRun.{run_number, run_value, RunOutcome, digit_run_of}
+use Rattle.cells.specs.DigitRun.{RunOutcome, digit_run_of}
 use Rattle.vectors.specs.Packed.{byte_of, with_byte, low_byte_behind, all_behind}
 
 -- An answer's first two bytes: 1 and the byte, how many zeros or the value's lowest byte, 0 and 0 where there is none, 2 and a
@@ -35,26 +35,27 @@ block_or_none (Some n) = low_byte_behind 1 0
 abbrev pub or_refused : ℕ → ℕ → ℕ
 or_refused number first = cond (eqb number 0) first (low_byte_behind 2 number)
 
--- those bytes, by what a call found
-abbrev pub seen_first : Result (Option ℕ) Refusal → ℕ
-seen_first found = or_refused (refusal_in found) (value_or_none (found_in found))
+-- of what a read did, and of a count of zeros or a run's value
+abbrev pub read_first : Read → ℕ
+read_first (read.Taken b) = low_byte_behind 1 b
+read_first (read.Declined b) = low_byte_behind 3 b
+read_first read.End = 0
 
-abbrev pub read_first : Result Read Refusal → ℕ
-read_first found = or_refused (refusal_in found) (read_or_none (read_byte found) (read_seen found))
+abbrev pub value_first : ℕ → ℕ
+value_first n = low_byte_behind 1 n
 
-abbrev pub zeros_first : Result ℕ Refusal → ℕ
-zeros_first found = or_refused (refusal_in found) (value_or_none (answer_in found))
-
-abbrev pub block_first : Result (Option ℕ) Refusal → ℕ
-block_first found = or_refused (refusal_in found) (block_or_none (found_in found))
-
-abbrev pub run_first : Result ℕ RunError → ℕ
-run_first found = or_refused (run_number found) (value_or_none (run_value found))
+-- of what a call found, or why it is refused
+abbrev pub first_in : {A E : Type 0} → (A → ℕ) → (E → ℕ) → Result A E → ℕ
+first_in first number (Ok found) = first found
+first_in first number (Err e) = low_byte_behind 2 (number e)
 
 -- behind them the cursor, what was passed, the three counts, and what was taken
 unfoldable pub with_state : ℕ → State → ℕ → ℕ → ℕ
 with_state first st taken passed =
     all_behind first (st.cursor ∷ passed ∷ st.integer.0 ∷ st.fraction.0 ∷ st.exponent.0 ∷ taken ∷ [])
+
+abbrev pub packed_as : {A E : Type 0} → (A → ℕ) → (E → ℕ) → Answer (Result A E) → ℕ
+packed_as first number a = with_state (first_in first number a.report.found) a.state a.report.taken a.report.passed
 
 abbrev pub packed_outcome : Outcome → ℕ
 packed_outcome o = with_state (or_refused o.refusal (value_or_none o.byte)) o.state o.taken o.passed

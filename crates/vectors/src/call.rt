@@ -1,15 +1,15 @@
 // A recorded call of a reader, made anew: the record's fields are packed numbers.
 ghost use Rattle.std.specs.Prelude.{◌≡◌, ℕ};
 ghost use Rattle.cells.specs.DigitRun.{run_outcome_of};
-ghost use Rattle.vectors.specs.Call.{seen_first, read_first, zeros_first, block_first, run_first, with_state, packed_part, packed_value};
+ghost use Rattle.vectors.specs.Call.{value_or_none, read_first, value_first, block_or_none, first_in, with_state, packed_as, packed_part, packed_value};
 ghost use Rattle.vectors.specs.Call.{state_of, answer_to, repeated_of};
 
 use crate::packed::{pushed, with_byte};
 use cells::digit_run::{Run, digit_run};
-use reader::answer::{Answer, Block, Read, Seen, Zeros};
+use reader::answer::{Answer, Read};
 use reader::iterator::{read_if_value_cased, skip_zeros};
 use reader::skip::{next, next_all, peek, take_n, take_n_part};
-use reader::state::{ExponentCount, FractionCount, IntegerCount, Reader, Refusal, State};
+use reader::state::{ExponentCount, FractionCount, IntegerCount, Numbered, Reader, State};
 use word::format_flags::Format;
 
 #[tactic(auto, unfolding(crate::specs::Call::state_of, crate::specs::Packed::byte_of))]
@@ -43,81 +43,81 @@ trait Begins {
         ensures { result ≡ first self };
 }
 
-impl Begins for Seen {
-    ghost first = { seen_first };
+// A byte, or none.
+impl Begins for Option<u8> {
+    ghost first = { value_or_none };
 
     fn first(self) -> u64 {
         match self {
-            Ok(Some(b)) => pushed(1, usize::from(b)),
-            Ok(None) => 0,
-            Err(refusal) => pushed(2, refusal.number() as usize),
+            Some(b) => pushed(1, usize::from(b)),
+            None => 0,
         }
     }
 }
 
-impl Begins for Result<Read, Refusal> {
+impl Begins for Read {
     ghost first = { read_first };
 
     fn first(self) -> u64 {
         match self {
-            Ok(Read::Taken(b)) => pushed(1, usize::from(b)),
-            Ok(Read::Declined(b)) => pushed(3, usize::from(b)),
-            Ok(Read::End) => 0,
-            Err(refusal) => pushed(2, refusal.number() as usize),
+            Read::Taken(b) => pushed(1, usize::from(b)),
+            Read::Declined(b) => pushed(3, usize::from(b)),
+            Read::End => 0,
         }
     }
 }
 
-impl Begins for Zeros {
-    ghost first = { zeros_first };
+// How many zeros.
+impl Begins for usize {
+    ghost first = { value_first };
+
+    fn first(self) -> u64 {
+        pushed(1, self)
+    }
+}
+
+// How long a block is, if there is one.
+impl Begins for Option<usize> {
+    ghost first = { block_or_none };
 
     fn first(self) -> u64 {
         match self {
-            Ok(zeros) => pushed(1, zeros),
-            Err(refusal) => pushed(2, refusal.number() as usize),
+            Some(_) => pushed(1, 0),
+            None => 0,
         }
     }
 }
 
-impl Begins for Block {
-    ghost first = { block_first };
+// The value of a run.
+impl Begins for u64 {
+    ghost first = { value_first };
 
     fn first(self) -> u64 {
-        match self {
-            Ok(Some(_)) => pushed(1, 0),
-            Ok(None) => 0,
-            Err(refusal) => pushed(2, refusal.number() as usize),
-        }
+        pushed(1, self as usize)
     }
 }
 
-impl Begins for Run {
-    ghost first = { run_first };
-
-    fn first(self) -> u64 {
-        match self {
-            Ok(value) => pushed(1, value as usize),
-            Err(error) => pushed(2, error.number() as usize),
-        }
+fn first_of<T: Begins, E: Numbered>(found: Result<T, E>) -> u64
+    ensures { result ≡ first_in T.first E.number_as found }
+{
+    match found {
+        Ok(found) => found.first(),
+        Err(error) => pushed(2, error.told_number() as usize),
     }
 }
 
-fn pack<F: Begins>(a: Answer<F>) -> u64
-    ensures { result ≡ with_state (F.first a.report.found) a.state a.report.taken a.report.passed }
+fn pack<T: Begins, E: Numbered>(a: Answer<Result<T, E>>) -> u64
+    ensures { result ≡ packed_as T.first E.number_as a }
 {
     let report = a.report;
-    packed_state(report.found.first(), a.state, report.taken, report.passed)
+    packed_state(first_of(report.found), a.state, report.taken, report.passed)
 }
 
 // The whole value of a run, and 0 where it is refused.
 fn pack_value(a: Answer<Run>) -> u64
     ensures { result ≡ packed_value (run_outcome_of a) }
 {
-    let report = a.report;
-    match report.found {
-        Ok(value) => value,
-        Err(_) => 0,
-    }
+    a.report.found.unwrap_or(0)
 }
 
 // Of a part of eight bytes the length is shifted out.
@@ -155,7 +155,7 @@ fn answer_to(kind: u8, s: &[u8], state: State, who: Reader, value: u8) -> Option
 }
 
 // The call that `what` describes: its kind, the reader, the buffer's length, the cursor, the three counts, and a value, which is
-// a read's byte or a block's size.
+// a read's byte or a block's size. Each byte is asked for by its place, since each has one use.
 pub fn repeat(what: u64, format: Format, bytes: u64) -> Option<u64>
     ensures { result ≡ repeated_of what format bytes }
 {
@@ -166,9 +166,7 @@ pub fn repeat(what: u64, format: Format, bytes: u64) -> Option<u64>
     if end > whole.len() {
         return None;
     }
-    let Ok(reader) = Reader::try_from(asked[1]) else {
-        return None;
-    };
+    let reader = Reader::try_from(asked[1]).ok()?;
     answer_to(
         asked[0],
         &whole[0..end],

@@ -9,7 +9,7 @@ use crate::tally::Tally;
 use std::io::Stdout;
 
 // How far the input is taken in.
-#[derive(Clone, Copy)]
+#[derive(Clone, Copy, Debug, PartialEq, Eq)]
 pub struct Progress<const ROOM: usize> {
     // The line that has no end yet, in its first `filled` bytes.
     line: [u8; ROOM],

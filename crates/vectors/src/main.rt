@@ -1,6 +1,9 @@
 // Replays answers of the Rust crate that were recorded as lines of text, and of a plain count where the crate has none:
 // reads them from standard input, asks our library the same, and says on standard output what differs and how much was
 // compared.
+//
+// `as` stands where std has no `From`: between a usize and a u32 or u64, and to a byte that the number fits. `try_from` would answer an
+// error that cannot come.
 #![tactic(auto)]
 
 mod call;

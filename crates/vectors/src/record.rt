@@ -1,5 +1,5 @@
 // A line of the record, taken apart: a letter for its kind, then fields, each a space and a number in upper-case hex.
-ghost use Rattle.std.specs.Prelude.{◌≤◌, ◌≡◌, ◌==◌, length};
+ghost use Rattle.std.specs.Prelude.{◌≤◌, ◌≡◌, ◌==◌, length, ok_or};
 ghost use Rattle.std.specs.List.{position};
 ghost use Rattle.vectors.specs.Hex.{hex_value, read_hex};
 ghost use Rattle.vectors.specs.Line.{kind_of, of_kind, with_field, until_space, record_of};
@@ -15,7 +15,7 @@ const DIGITS: usize = 16;
 const RADIX: u64 = 16;
 
 // What a record asks, by the letter that it begins with.
-#[derive(Clone, Copy)]
+#[derive(Clone, Copy, Debug, PartialEq, Eq)]
 pub enum Kind {
     // `W lo hi full plain`: a word and the answers of both checks.
     Word,
@@ -29,8 +29,8 @@ pub enum Kind {
 }
 
 // The parts of a line. `shape` has each field's count of digits in a byte of its own, the last field's lowest, so that
-// one number tells the line's format.
-#[derive(Clone, Copy)]
+// one number tells the line's format; of the values, which lie in the record itself, the first `count` are its own.
+#[derive(Clone, Copy, Debug, PartialEq, Eq)]
 pub struct Record {
     pub kind: Kind,
     pub count: usize,
@@ -38,33 +38,41 @@ pub struct Record {
     pub values: [u64; FIELDS],
 }
 
-impl Kind {
-    fn of(letter: u8) -> Option<Self>
-        ensures { result ≡ kind_of letter }
-    {
+// A letter that no record begins with.
+#[derive(Clone, Copy, Debug, PartialEq, Eq)]
+pub struct UnknownLetter(pub u8);
+
+impl TryFrom<u8> for Kind {
+    type Error = UnknownLetter;
+
+    ghost try_from_gives = { λ letter kind. kind ≡ ok_or (kind_of letter) (record { 0 = letter }) };
+
+    fn try_from(letter: u8) -> Result<Self, UnknownLetter> {
         match letter {
-            b'W' => Some(Kind::Word),
-            b'D' => Some(Kind::Digit),
-            b'R' => Some(Kind::Call),
-            b'E' => Some(Kind::RunEnd),
-            _ => None,
+            b'W' => Ok(Kind::Word),
+            b'D' => Ok(Kind::Digit),
+            b'R' => Ok(Kind::Call),
+            b'E' => Ok(Kind::RunEnd),
+            _ => Err(UnknownLetter(letter)),
         }
     }
 }
 
+#[tactic(auto, unfolding(crate::specs::Hex::hex_value))]
 fn letter_value(byte: u8) -> u64
     requires { (65 ≤ byte) × (byte ≤ 70) }
     ensures { Some result ≡ hex_value byte }
 {
-    (byte - b'A') as u64 + 10
+    u64::from(byte - b'A') + 10
 }
 
 // The value of an upper-case hex digit; `char::to_digit` and `u64::from_str_radix` take lower-case ones too.
+#[tactic(auto, unfolding(crate::specs::Hex::hex_value))]
 fn hex_value(byte: u8) -> Option<u64>
     ensures { result ≡ hex_value byte }
 {
     match byte {
-        b'0'..=b'9' => Some((byte - b'0') as u64),
+        b'0'..=b'9' => Some(u64::from(byte - b'0')),
         b'A'..=b'F' => Some(letter_value(byte)),
         _ => None,
     }
@@ -107,16 +115,14 @@ impl Record {
         if count >= FIELDS {
             return None;
         }
-        if field.is_empty() {
+        let (first, digits) = field.split_first()?;
+        if *first != b' ' {
             return None;
         }
-        if field[0] != b' ' {
-            return None;
-        }
-        let value = read_number(&field[1..])?;
+        let value = read_number(digits)?;
         self.values[count] = value;
         self.count = count + 1;
-        self.shape = pushed(self.shape, field.len() - 1);
+        self.shape = pushed(self.shape, digits.len());
         Some(self)
     }
 }
@@ -139,10 +145,9 @@ fn until_space(line: &[u8]) -> usize
 pub fn parse(line: &[u8]) -> Option<Record>
     ensures { result ≡ record_of line.now }
 {
-    if line.is_empty() {
-        return None;
-    }
-    let mut parsed = Record::of_kind(Kind::of(line[0])?);
+    let (letter, _) = line.split_first()?;
+    let kind = Kind::try_from(*letter).ok()?;
+    let mut parsed = Record::of_kind(kind);
     let mut at = 1;
     while at < line.len() {
         let end = at + 1 + until_space(&line[at + 1..]);

@@ -20,7 +20,7 @@ const CALL_SHAPE: u64 = 0x10_10_10_10_10;
 const RUN_END_SHAPE: u64 = 0x10_10_10_10_10_10_10;
 
 // Which answer of a record it is.
-#[derive(Clone, Copy)]
+#[derive(Clone, Copy, Debug, PartialEq, Eq)]
 pub enum Answer {
     Full,
     Plain,
@@ -29,7 +29,7 @@ pub enum Answer {
     RunEnd,
 }
 
-#[derive(Clone, Copy)]
+#[derive(Clone, Copy, Debug, PartialEq, Eq)]
 pub struct Difference {
     pub answer: Answer,
     pub recorded: u64,
@@ -37,7 +37,7 @@ pub struct Difference {
 }
 
 // Why a line is not one whose answers are the same. Of several answers that differ the first is given.
-#[derive(Clone, Copy)]
+#[derive(Clone, Copy, Debug, PartialEq, Eq)]
 pub enum Fault {
     Differs(Difference),
     NoRecord,
@@ -110,13 +110,13 @@ fn compare_word(parsed: Record) -> Result<(), Fault>
 fn full_answer(format: Format) -> u64
     ensures { result ≡ full_check format }
 {
-    format.error().number() as u64
+    u64::from(format.error().number())
 }
 
 fn plain_answer(format: Format) -> u64
     ensures { result ≡ plain_check format }
 {
-    word::not_feature_format::format_error_impl(format).number() as u64
+    u64::from(word::not_feature_format::format_error_impl(format).number())
 }
 
 // The shape bounds both numbers already; to test them here spares a proof of that.
@@ -127,12 +127,8 @@ fn compare_digit(parsed: Record) -> Result<(), Fault>
         return Err(Fault::NoRecord);
     }
     let values = parsed.values;
-    let Ok(byte) = u8::try_from(values[0]) else {
-        return Err(Fault::NoRecord);
-    };
-    let Ok(radix) = u32::try_from(values[1]) else {
-        return Err(Fault::NoRecord);
-    };
+    let byte = u8::try_from(values[0]).map_err(|_| Fault::NoRecord)?;
+    let radix = u32::try_from(values[1]).map_err(|_| Fault::NoRecord)?;
     settle(Answer::Digit, values[2], digit_answer(byte, radix))
 }
 

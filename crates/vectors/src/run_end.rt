@@ -2,7 +2,7 @@
 ghost use Rattle.std.specs.Prelude.{◌≡◌};
 ghost use Rattle.vectors.specs.RunEnd.{long_buffer_of, packed_search, searched_of};
 
-use crate::packed::pushed;
+use crate::packed::low_byte;
 use reader::search::{RunSearch, search_run};
 
 // How many packed numbers hold a recorded buffer.
@@ -11,7 +11,8 @@ pub const NUMBERS: usize = 5;
 // The most bytes of a recorded buffer.
 const MOST: usize = 40;
 
-// The bytes of the numbers one behind the other, of each the lowest first.
+// The bytes of the numbers one behind the other, of each the lowest first. A loop over `chunks_exact_mut` was tried: what it lends wants an
+// invariant, and with that the proof did not close.
 fn long_buffer_of(numbers: [u64; NUMBERS]) -> [u8; MOST]
     ensures { result ≡ long_buffer_of numbers }
 {
@@ -28,8 +29,10 @@ fn long_buffer_of(numbers: [u64; NUMBERS]) -> [u8; MOST]
 fn pack_search(found: RunSearch) -> u64
     ensures { result ≡ packed_search found }
 {
-    let told = pushed(pushed(pushed(0, found.end), found.eights), found.ones);
-    pushed(pushed(pushed(pushed(pushed(told, 0), 0), 0), 0), 0)
+    let end = low_byte(found.end);
+    let eights = low_byte(found.eights);
+    let ones = low_byte(found.ones);
+    u64::from_be_bytes([end, eights, ones, 0, 0, 0, 0, 0])
 }
 
 // The search that `what` describes: the separator, the buffer's length, and the place that it begins at.
@@ -39,12 +42,12 @@ pub fn search_again(what: u64, numbers: [u64; NUMBERS]) -> Option<u64>
     let buffer = long_buffer_of(numbers);
     let whole: &[u8] = &buffer;
     let asked = what.to_be_bytes();
-    let end = asked[1] as usize;
+    let end = usize::from(asked[1]);
     if end > whole.len() {
         return None;
     }
     let separator = asked[0];
-    let at = asked[2] as usize;
+    let at = usize::from(asked[2]);
     let found = search_run(&whole[0..end], separator, at);
     Some(pack_search(found))
 }

@@ -6,13 +6,13 @@ use crate::record::Kind;
 use crate::replay::Fault;
 
 // Counts go up to the largest number.
-#[derive(Clone, Copy, Default)]
+#[derive(Clone, Copy, Debug, PartialEq, Eq, Default)]
 pub struct Count {
     pub lines: u64,
     pub differences: u64,
 }
 
-#[derive(Clone, Copy, Default)]
+#[derive(Clone, Copy, Debug, PartialEq, Eq, Default)]
 pub struct Tally {
     pub words: Count,
     pub digits: Count,

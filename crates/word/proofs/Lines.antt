@@ -1,8 +1,7 @@
 -- Laws of a check as a list of lines, for both checks and for the reader's refusals: the first line of a list, and two lists joined.
 -- Assumes nothing.
-use Rattle.std.proofs.Common.{◌≡◌, ℕ, zero, suc, Bool, true, false, cond, not, eqb, List, [], ◌∷◌, ◌++◌, refl}
+use Rattle.std.proofs.Common.{◌≡◌, ℕ, zero, suc, Bool, true, false, cond, eqb, List, [], ◌∷◌, ◌++◌, refl}
 use lib.Dec.{eqb-suc-zero}
-use borrow.Author.Tests.{not-true, not-false}
 use Rattle.word.specs.Check.{line, first_failing}
 
 -- a line with a number that is not 0 decides where it fails
@@ -25,8 +24,8 @@ joined (suc n ∷ a) b = rw (eqb-suc-zero n)
 -- The step of a check that asks of the first list's answer e whether it is a success, s: it stops with e, or goes on to the second
 -- list's answer m.
 module _ (e : ℕ) (s : Bool) (a b : List ℕ) (answer : e ≡ first_failing a) (success : s ≡ eqb e 0) where
-  pub stops : not s ≡ true → e ≡ first_failing (a ++ b)
-  stops t = let u : s ≡ false = not-true s t in let k : eqb (first_failing a) 0 ≡ false = cc in rw (joined a b, k) answer
+  pub stops : s ≡ false → e ≡ first_failing (a ++ b)
+  stops fails = let k : eqb (first_failing a) 0 ≡ false = cc in rw (joined a b, k) answer
 
-  pub goes_on : (m : ℕ) → not s ≡ false → m ≡ first_failing b → m ≡ first_failing (a ++ b)
-  goes_on m t rest = let u : s ≡ true = not-false s t in let k : eqb (first_failing a) 0 ≡ true = cc in rw (joined a b, k) rest
+  pub goes_on : (m : ℕ) → s ≡ true → m ≡ first_failing b → m ≡ first_failing (a ++ b)
+  goes_on m holds rest = let k : eqb (first_failing a) 0 ≡ true = cc in rw (joined a b, k) rest

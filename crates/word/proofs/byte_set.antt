@@ -1,2 +1,2 @@
 -- Members of a set as bits of four numbers.
-mod Members
+pub mod Members

@@ -1,4 +1,4 @@
 -- Digits by the table of values, and by the ranges of figures and letters.
 mod AllBytes
-mod Table
+pub mod Table
 mod Ranges

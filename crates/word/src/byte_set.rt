@@ -18,13 +18,6 @@ impl ByteSet {
         ByteSet { bits: [0; 4] }
     }
 
-    // The set of one byte.
-    pub fn from_byte(b: u8) -> Self
-        ensures { (x : ℕ) → x < 256 → member result x ≡ (x == b) }
-    {
-        ByteSet::from(b)
-    }
-
     // The set with one more byte.
     pub fn insert(mut self, b: u8) -> Self
         ensures { (x : ℕ) → x < 256 → member result x ≡ (x == b || member self x) }
@@ -40,6 +33,7 @@ impl ByteSet {
     }
 }
 
+// The set of one byte.
 impl From<u8> for ByteSet {
     ghost from_gives = { λ b s. (x : ℕ) → x < 256 → member s x ≡ (x == b) };
 

@@ -13,6 +13,7 @@ fn eight(a: u8, b: u8, c: u8, d: u8, e: u8, f: u8, g: u8, h: u8) -> u64
 
 // The value of each byte, in one table of 256 entries, eight to a row: 0 to 9 for the figures, 10 to 35 for the letters of either
 // case, 255 for none. As the arms of a `match` it is read where it lies; a constant array would be stored to the stack at each use.
+#[tactic(auto, unfolding(crate::specs::Digit::digit_value))]
 fn row_of(row: u32) -> u64
     requires { row < 32 }
     ensures { result ≡ entries_from (8 * row) 8 }
@@ -53,7 +54,7 @@ fn row_of(row: u32) -> u64
     }
 }
 
-// The byte's entry. Worked out in 32 bits, its row and its place there are compiled to one load of a byte.
+// The byte's entry. Worked out in 32 bits, its row and its place there are compiled to one load of a byte. `as` keeps its eight bits.
 fn entry_of(c: u8) -> u8
     ensures { result ≡ entry (digit_value c) }
 {

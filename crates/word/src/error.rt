@@ -30,7 +30,7 @@ impl Error {
         self == Error::Success
     }
 
-    // Its number in document 01.
+    // Its number in document 01. `as` of an enum is its own number.
     pub fn number(self) -> u32
         ensures { result ≡ number_of self }
     {

@@ -1,5 +1,6 @@
-// The fields and flags of a format word as methods, and the full check. After lexical-util's feature_format.rs.
-ghost use Rattle.std.specs.Prelude.{◌≡◌, ◌<◌, if◌then◌else◌, ◌==◌};
+// The fields and flags of a format word as methods, and the full check. After lexical-util's feature_format.rs; a method for each flag,
+// and the fields also as functions (format_flags.rt), since the crate has both.
+ghost use Rattle.std.specs.Prelude.{◌≡◌, ◌≢◌, ◌<◌, if◌then◌else◌, ◌==◌, MatchResult};
 ghost use Rattle.word.specs.Word.{flag, digit_separator, base_prefix, base_suffix, mantissa_radix, exponent_base, exponent_radix};
 ghost use Rattle.word.specs.Error.{number_of};
 ghost use Rattle.word.specs.Check.{first_failing, radix_lines, control_lines, flag_lines, consecutive_alone, consecutive_lines, full_check};
@@ -19,6 +20,18 @@ impl Format {
         ensures { number_of result ≡ full_check self }
     {
         format_error_impl(self)
+    }
+
+    // The full check as a result, for `?`.
+    pub fn check(self) -> Result<(), Error>
+        ensures { MatchResult result (λ _. full_check self ≡ 0) (λ e. (number_of e ≡ full_check self) × (full_check self ≢ 0)) }
+    {
+        let error = self.error();
+        if error.is_success() {
+            Ok(())
+        } else {
+            Err(error)
+        }
     }
 
     pub fn is_valid_radix(self) -> bool
@@ -232,7 +245,8 @@ pub(crate) fn line(holds: bool, error: Error, rest: Error) -> Error
 pub fn radix_error_impl(format: Format) -> Error
     ensures { number_of result ≡ first_failing (radix_lines format) }
 {
-    if !flags::is_valid_radix(flags::mantissa_radix(format)) {
+    let valid = flags::is_valid_radix(flags::mantissa_radix(format));
+    if !valid {
         return Error::InvalidMantissaRadix;
     }
     line(
@@ -294,7 +308,8 @@ fn flag_error(format: Format) -> Error
     )
 }
 
-// Whether a counted reader (0 integer, 1 fraction, 2 exponent) has its consecutive flag and no other.
+// Whether a counted reader has its consecutive flag and no other. A number, 0 integer, 1 fraction, 2 exponent: a reader's flags lie that
+// far behind the integer's, and its type comes with the readers (crate reader), which stand on this check.
 fn is_consecutive_alone(format: Format, reader: u32) -> bool
     requires { reader < 3 }
     ensures { result ≡ consecutive_alone format reader }
@@ -329,15 +344,18 @@ pub fn format_error_impl(format: Format) -> Error
     ensures { number_of result ≡ full_check format }
 {
     let radix = radix_error_impl(format);
-    if !radix.is_success() {
+    let radix_holds = radix.is_success();
+    if !radix_holds {
         return radix;
     }
     let control = control_error(format);
-    if !control.is_success() {
+    let control_holds = control.is_success();
+    if !control_holds {
         return control;
     }
     let flags = flag_error(format);
-    if !flags.is_success() {
+    let flags_hold = flags.is_success();
+    if !flags_hold {
         return flags;
     }
     consecutive_error(format)

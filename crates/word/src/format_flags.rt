@@ -106,6 +106,7 @@ pub(crate) fn low_bits(format: Format, shift: u32, width: u32) -> u64
 }
 
 // A flag of the lower half of the word.
+#[tactic(auto, unfolding(crate::specs::Bits::bit, crate::specs::Word::flag, crate::specs::Word::field))]
 pub(crate) fn flag_at(format: Format, position: u32) -> bool
     requires { position < 64 }
     ensures { result ≡ flag format position }
@@ -113,7 +114,7 @@ pub(crate) fn flag_at(format: Format, position: u32) -> bool
     low_bits(format, position, 1) == 1
 }
 
-// Eight bits of the upper half of the word.
+// Eight bits of the upper half of the word. `as` loses nothing of them, and `try_from` would answer an error that cannot come.
 fn byte_at(format: Format, shift: u32) -> u8
     requires { (64 ≤ shift) × (shift < 128) }
     ensures { result ≡ field format shift 8 }
@@ -139,10 +140,17 @@ pub fn base_suffix(format: Format) -> u8
     byte_at(format, BASE_SUFFIX_SHIFT)
 }
 
+// The mantissa radix as the byte that it is in the word: in eight bits a digit is compared by one load of a byte.
+pub fn mantissa_radix_byte(format: Format) -> u8
+    ensures { result ≡ mantissa_radix format }
+{
+    byte_at(format, MANTISSA_RADIX_SHIFT)
+}
+
 pub fn mantissa_radix(format: Format) -> u32
     ensures { result ≡ mantissa_radix format }
 {
-    u32::from(byte_at(format, MANTISSA_RADIX_SHIFT))
+    u32::from(mantissa_radix_byte(format))
 }
 
 // A radix field's value, for which the mantissa radix stands in where it is 0.

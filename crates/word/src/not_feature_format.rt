@@ -48,11 +48,13 @@ pub fn format_error_impl(format: Format) -> Error
     ensures { number_of result ≡ plain_check format }
 {
     let radix = radix_error_impl(format);
-    if !radix.is_success() {
+    let radix_holds = radix.is_success();
+    if !radix_holds {
         return radix;
     }
     let control = control_error(format);
-    if !control.is_success() {
+    let control_holds = control.is_success();
+    if !control_holds {
         return control;
     }
     line(has_valid_flags(format), Error::InvalidFlags, Error::Success)

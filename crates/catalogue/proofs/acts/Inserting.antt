@@ -1,19 +1,15 @@
 -- An entry put in at its place: what the words come to. Assumes nothing.
-use mathlib.Core.Path.{◌≡◌, ◌∙◌, sym, ap}
-use mathlib.Core.List.{List, [], ◌∷◌, ◌++◌, append_assoc}
-use Prim.Native.Nat.{ℕ, suc, ◌+◌, ◌*◌, ◌-◌, ◌≤◌, ◌<◌}
-use native.Mathlib.Omega.{arith}
-use lib.ListN.{length, take, drop, get_or, set}
-use lib.Seq.{sets, set_at, take-suc, take-take, length-take-le}
+use Rattle.std.proofs.Common.{◌≡◌, ℕ, suc, ◌+◌, ◌-◌, ◌*◌, ◌<◌, ◌≤◌, List, [], ◌∷◌, ◌++◌, length, get_or, take, drop, set, sym, ap, ◌∙◌, append_assoc, arith, length-take-le, take-suc}
+use lib.Seq.{sets, set_at}
 use Rattle.catalogue.specs.declared.entries.Entry.{Entry}
 use Rattle.catalogue.specs.Entries.{inserted, uses}
 use Rattle.catalogue.specs.Catalogue.{Catalogue, no_entry, listing, size, raised, with_entry}
 use Rattle.catalogue.specs.Block.{entry_words, words_of, catalogue_in}
 use Rattle.std.specs.List.{copy_within}
 use Rattle.catalogue.specs.Code.Search.{before}
-use Rattle.catalogue.proofs.entries.Parts.{take-size, drop_of_take}
-use Rattle.catalogue.proofs.entries.Words.{words_back, places_64, words_append, words_take, words_drop, block_set, tally_at}
+use Rattle.catalogue.proofs.entries.Words.{words_back, places_64, block_set, tally_at}
 use Rattle.catalogue.proofs.entries.Place.{inserted_at}
+use Rattle.catalogue.proofs.acts.Moving.{words_moved, listed_front, listed_behind}
 
 -- the entries from a place on, up to the last one listed, each a place higher
 abbrev up_entries : ℕ → ℕ → List Entry → List Entry
@@ -22,12 +18,7 @@ up_entries at len es = take (suc at) es ++ (take (len - at) (drop at es) ++ drop
 up_words : (u t at len : ℕ) (es : List Entry) → at ≤ len
     → copy_within (u ∷ t ∷ entry_words es) (2 + 3 * at) (2 + 3 * len) (2 + 3 * at + 3) ≡ u ∷ t ∷ entry_words (up_entries at len es)
 up_words u t at len es h =
-    let above : 2 + 3 * at + 3 ≡ suc (suc (3 * suc at)) = omega arith in
-    let many : 2 + 3 * len - (2 + 3 * at) ≡ 3 * (len - at) = omega arith in
-    let behind : 2 + 3 * at + 3 + (2 + 3 * len - (2 + 3 * at)) ≡ suc (suc (3 * suc len)) = omega arith in
-    let here : 2 + 3 * at ≡ suc (suc (3 * at)) = omega arith in
-    append_assoc (take (2 + 3 * at + 3) (u ∷ t ∷ entry_words es)) _ _
-    ∙ rw (behind, above, many, here, words_take (suc at) es, words_drop at es, words_take (len - at) (drop at es), words_drop (suc len) es, ← words_append (take (len - at) (drop at es)) (drop (suc len) es), ← words_append (take (suc at) es) (take (len - at) (drop at es) ++ drop (suc len) es))
+    words_moved u t at (len - at) (suc at) (suc len) es (omega arith) (2 + 3 * at) (2 + 3 * len) (2 + 3 * at + 3) (omega arith) (omega arith) (omega arith)
 
 -- the place that they leave takes the entry
 put_there : (at len : ℕ) (e : Entry) (es : List Entry) → at < length es
@@ -43,13 +34,10 @@ module _ (c : Catalogue) (len at : ℕ) (e : Entry) (is-len : len ≡ size c) (p
   abbrev es : List Entry
   es = c.places
 
-  listing_is : listing c ≡ take len es
-  listing_is = sym (take-size c.used es) ∙ ap (λ (n : ℕ). take n es) (sym is-len)
-
   pub puts_in : inserted e (listing c) ++ drop (suc (size c)) es ≡ take at es ++ e ∷ (take (len - at) (drop at es) ++ drop (suc len) es)
   puts_in =
-      let front : take at (listing c) ≡ take at es = ap (λ (l : List Entry). take at l) listing_is ∙ take-take at len es within in
-      let back : drop at (listing c) ≡ take (len - at) (drop at es) = ap (λ (l : List Entry). drop at l) listing_is ∙ drop_of_take at len es within in
+      let front : take at (listing c) ≡ take at es = listed_front c len is-len at within in
+      let back : drop at (listing c) ≡ take (len - at) (drop at es) = listed_behind c len is-len at within in
       let spot : inserted e (listing c) ≡ take at (listing c) ++ e ∷ drop at (listing c) =
       inserted_at e (listing c) ∙ ap (λ (k : ℕ). take k (listing c) ++ e ∷ drop k (listing c)) (sym place) in
       ap (λ (l : List Entry). l ++ drop (suc (size c)) es) (spot ∙ ap (λ (l : List Entry). l ++ e ∷ drop at (listing c)) front ∙ ap (λ (l : List Entry). take at es ++ e ∷ l) back)

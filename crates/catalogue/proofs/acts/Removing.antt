@@ -1,21 +1,15 @@
 -- An entry taken out: what the words come to. Assumes nothing.
-use Rattle.std.specs.Prelude.{is_some}
-use mathlib.Core.Path.{◌≡◌, ◌∙◌, sym, ap}
-use mathlib.Core.Bool.{true}
-use mathlib.Core.List.{List, [], ◌∷◌, ◌++◌, append_assoc}
-use Prim.Native.Nat.{ℕ, suc, ◌+◌, ◌*◌, ◌-◌, ◌≤◌, ◌<◌}
-use native.Mathlib.Omega.{arith}
-use lib.ListN.{length, take, drop, get_or, set, length-append, length-drop}
-use lib.Seq.{sets, set_at, drop-cons, take-take, length-take-le}
+use Rattle.std.proofs.Common.{◌≡◌, ℕ, suc, ◌+◌, ◌-◌, ◌*◌, ◌<◌, ◌≤◌, true, List, [], ◌∷◌, ◌++◌, length, get_or, take, drop, set, is_some, sym, ap, ◌∙◌, append_assoc, arith, length-append, length-drop, length-take-le, drop-cons}
+use lib.Seq.{sets, set_at}
 use Rattle.catalogue.specs.declared.entries.Entry.{Entry}
 use Rattle.catalogue.specs.Entries.{without, uses}
 use Rattle.catalogue.specs.Catalogue.{Catalogue, no_entry, listing, size, word_in, removed}
 use Rattle.catalogue.specs.Block.{entry_words, words_of, catalogue_in}
 use Rattle.std.specs.List.{copy_within}
 use Rattle.catalogue.specs.Code.Search.{before}
-use Rattle.catalogue.proofs.entries.Parts.{take-size, drop_of_take}
-use Rattle.catalogue.proofs.entries.Words.{words_back, places_64, words_append, words_take, words_drop, block_set, tally_at, listed_size}
+use Rattle.catalogue.proofs.entries.Words.{words_back, places_64, block_set, tally_at, listed_size}
 use Rattle.catalogue.proofs.entries.Place.{without_at, listed_within, listed_word}
+use Rattle.catalogue.proofs.acts.Moving.{words_moved, listed_front, listed_behind}
 
 -- the entries behind a place, up to the last one listed, each a place lower
 abbrev down_entries : ℕ → ℕ → List Entry → List Entry
@@ -24,12 +18,7 @@ down_entries at last es = take at es ++ (take (last - at) (drop (suc at) es) ++ 
 down_words : (u t at last : ℕ) (es : List Entry) → at ≤ last
     → copy_within (u ∷ t ∷ entry_words es) (2 + 3 * at + 3) (2 + 3 * last + 3) (2 + 3 * at) ≡ u ∷ t ∷ entry_words (down_entries at last es)
 down_words u t at last es h =
-    let above : 2 + 3 * at + 3 ≡ suc (suc (3 * suc at)) = omega arith in
-    let many : 2 + 3 * last + 3 - (2 + 3 * at + 3) ≡ 3 * (last - at) = omega arith in
-    let behind : 2 + 3 * at + (2 + 3 * last + 3 - (2 + 3 * at + 3)) ≡ suc (suc (3 * last)) = omega arith in
-    let here : 2 + 3 * at ≡ suc (suc (3 * at)) = omega arith in
-    append_assoc (take (2 + 3 * at) (u ∷ t ∷ entry_words es)) _ _
-    ∙ rw (behind, many, above, here, words_take at es, words_drop (suc at) es, words_take (last - at) (drop (suc at) es), words_drop last es, ← words_append (take (last - at) (drop (suc at) es)) (drop last es), ← words_append (take at es) (take (last - at) (drop (suc at) es) ++ drop last es))
+    words_moved u t (suc at) (last - at) at last es (omega arith) (2 + 3 * at + 3) (2 + 3 * last + 3) (2 + 3 * at) (omega arith) (omega arith) (omega arith)
 
 -- the place that the last one leaves is freed
 free_there : (at last : ℕ) (e : Entry) (es : List Entry) → at ≤ last → last < length es
@@ -54,16 +43,13 @@ module _ (c : Catalogue) (len at n : ℕ) (is-len : len ≡ size c) (place : at 
   within : at < len
   within = omega (arith, listed_within c n at place is)
 
-  listing_is : listing c ≡ take len es
-  listing_is = sym (take-size c.used es) ∙ ap (λ (k : ℕ). take k es) (sym is-len)
-
   pub takes_out : without n (listing c) ++ no_entry ∷ drop (size c) es ≡ take at es ++ (take (len - 1 - at) (drop (suc at) es) ++ no_entry ∷ drop (suc (len - 1)) es)
   takes_out =
       let one : suc (len - 1) ≡ size c = omega (arith, within) in
       let many : len - suc at ≡ len - 1 - at = omega arith in
-      let front : take at (listing c) ≡ take at es = ap (λ (l : List Entry). take at l) listing_is ∙ take-take at len es (omega (arith, within)) in
+      let front : take at (listing c) ≡ take at es = listed_front c len is-len at (omega (arith, within)) in
       let back : drop (suc at) (listing c) ≡ take (len - 1 - at) (drop (suc at) es) =
-      ap (λ (l : List Entry). drop (suc at) l) listing_is ∙ drop_of_take (suc at) len es (omega (arith, within)) ∙ ap (λ (k : ℕ). take k (drop (suc at) es)) many in
+      listed_behind c len is-len (suc at) (omega (arith, within)) ∙ ap (λ (k : ℕ). take k (drop (suc at) es)) many in
       let spot : without n (listing c) ≡ take at (listing c) ++ drop (suc at) (listing c) =
       without_at n (listing c) is ∙ ap (λ (k : ℕ). take k (listing c) ++ drop (suc k) (listing c)) (sym place) in
       ap (λ (l : List Entry). l ++ no_entry ∷ drop (size c) es) (spot ∙ ap (λ (l : List Entry). l ++ drop (suc at) (listing c)) front ∙ ap (λ (l : List Entry). take at es ++ l) back)

@@ -1,16 +1,7 @@
 -- The place of a school's entry: what is looked up, put in and taken out there. Assumes nothing.
-use mathlib.Core.Path.{◌≡◌, ◌∙◌, refl, sym, ap}
-use mathlib.Core.Bool.{Bool, true, false, cond}
-use mathlib.Core.List.{List, [], ◌∷◌, ◌++◌}
-use Rattle.std.specs.Prelude.{None, Option, Some, is_some}
-use Prim.Native.Nat.{ℕ, suc, ◌+◌, ◌≤◌, ◌<◌}
-use native.Mathlib.Omega.{arith}
-use lib.Dec.{eqb, ltb}
-use native.Mathlib.Numerals.{add-one}
-use borrow.Author.Tests.{eq-eqb, ne_eqb, lt-ltb, le-ltb, ltb-true, ltb-false}
-use lib.ListN.{length, take, drop, get_or, length-take, drop_of_length-le}
-use lib.Seq.{drop-cons, get_or-take}
+use Rattle.std.proofs.Common.{◌≡◌, ℕ, suc, ◌+◌, ◌<◌, ◌≤◌, Bool, true, false, cond, eqb, ltb, List, [], ◌∷◌, ◌++◌, length, get_or, take, drop, is_some, Some, None, Option, sym, refl, ap, ◌∙◌, add-one, arith, drop_of_length-le, length-take, drop-cons, get_or-take, ltb-false, ltb-true, le-ltb, lt-ltb, eq-eqb, ne_eqb}
 use Rattle.std.proofs.lemmas.Option.{slice_get-get_or, slice_get_past}
+use Rattle.std.proofs.lemmas.Bool.{false≢true}
 use Rattle.word.specs.declared.format_flags.Format.{Format}
 use Rattle.catalogue.specs.declared.entries.Entry.{Entry}
 use Rattle.catalogue.specs.Entries.{look_up, inserted, without}
@@ -103,7 +94,7 @@ module _ (c : Catalogue) (n at : ℕ) (place : at ≡ before n (listing c)) wher
     listed_within = go (ltb at (size c)) refl where
       go : (t : Bool) → ltb at (size c) ≡ t → at < size c
       go true t = ltb-true at (size c) t
-      go false t = absurd (let z : false ≡ true = sym (stands_nowhere (ltb-false at (size c) t)) ∙ is in let y : ◌≡◌ {A = ℕ} 0 1 = cc in omega (arith, y))
+      go false t = absurd (false≢true (sym (stands_nowhere (ltb-false at (size c) t)) ∙ is))
 
     pub listed_word : word_in c n ≡ Some (get_or c.places at no_entry).format
     listed_word =

@@ -1,12 +1,6 @@
 -- What a peek passes in front of a digit may be counted before the step that takes the digit: for loops that go over a separator and
 -- its digit in two turns. Assumes nothing.
-use mathlib.Core.Path.{◌≡◌, ◌∙◌, refl, ap}
-use mathlib.Core.Bool.{true, false}
-use mathlib.Core.List.{List}
-use Prim.Native.Nat.{ℕ, suc, ◌+◌, ◌-◌, ◌<◌}
-use native.Mathlib.Omega.{arith}
-use lib.Dec.{eqb}
-use lib.ListN.{length, get_or}
+use Rattle.std.proofs.Common.{◌≡◌, ℕ, suc, ◌+◌, ◌-◌, ◌<◌, true, false, eqb, List, length, get_or, refl, ap, ◌∙◌, arith}
 use Rattle.reader.specs.declared.state.Reader.{Reader}
 use Rattle.reader.specs.declared.state.State.{State}
 use Rattle.reader.specs.declared.passing.Syntax.{Syntax}
@@ -67,6 +61,6 @@ module _ (x : Syntax) (s : List ℕ) (r : Reader) (st : State) (at count value t
         end = now.end ∙ same.2;
         stands = on;
         moved = omega (arith, now.moved, lands);
-        known = λ e. absurd (let z : ◌≡◌ {A = ℕ} 0 1 = cc in omega arith);
+        known = λ e. absurd (cc);
         small = now.small;
       }

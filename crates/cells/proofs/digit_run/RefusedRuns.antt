@@ -1,14 +1,8 @@
 -- A separator that was refused and taken, with the consecutive flag, by a reader that has counted: the next one of its run is refused
 -- too, so that the loop need not ask. Assumes nothing.
-use mathlib.Core.Path.{◌≡◌, ◌∙◌, refl, sym, ap}
-use mathlib.Core.Bool.{Bool, true, false, not}
-use mathlib.Core.List.{List}
-use Prim.Native.Nat.{ℕ, suc, ◌+◌, ◌<◌}
-use native.Mathlib.Omega.{arith}
-use borrow.Author.Tests.{eqb-true, eqb-false, ne_eqb, not-true, ltb-true, ltb-false}
-use lib.Dec.{eqb, ltb}
-use lib.ListN.{length, drop, get_or}
-use lib.Seq.{drop-cons}
+use Rattle.std.proofs.Common.{◌≡◌, ℕ, suc, ◌+◌, ◌<◌, Bool, true, false, not, eqb, ltb, List, length, get_or, drop, sym, refl, ap, ◌∙◌, arith, drop-cons, ltb-false, ltb-true, ne_eqb, eqb-true}
+use borrow.Author.Tests.{eqb-false, not-true}
+use Rattle.std.proofs.lemmas.Bool.{and_parts}
 use Rattle.reader.specs.declared.state.Reader.{Reader}
 use Rattle.reader.specs.declared.state.State.{State}
 use Rattle.reader.specs.declared.passing.Syntax.{Syntax}
@@ -18,7 +12,6 @@ use Rattle.reader.proofs.passing.Passed.{separator_is, passes_none}
 use Rattle.reader.proofs.passing.Landings.{stays_on_other, stays_at_end}
 use Rattle.reader.proofs.passing.RefusedRuns.{refused-first, refused_next}
 use Rattle.cells.specs.Code.Steps.{Takes, still_refused}
-use Rattle.cells.proofs.Booleans.{both}
 
 module _ (x : Syntax) (s : List ℕ) (at : ℕ) (inside : at < length s) (consecutive : x.flags.consecutive ≡ true) (is_first : Bool)
     (here : get_or s at 0 ≡ x.separator) (refused : passed_at (reading_with x) s is_first at ≡ 0) where
@@ -43,9 +36,9 @@ module _ (x : Syntax) (s : List ℕ) (at : ℕ) (inside : at < length s) (consec
 module _ (x : Syntax) (s : List ℕ) (r : Reader) (st : State) (at count c to behind over : ℕ) (took : Takes (reading_with x) s r st at count c to behind over) where
   pub next_refused : still_refused x c over count ≡ true → passed_at (reading_with x) s (eqb behind 0) to ≡ 0
   next_refused e =
-      let tests = both _ (not (eqb count 0)) e in
-      let more = both _ (eqb over 0) tests.0 in
-      let flags = both x.flags.consecutive (eqb c x.separator) more.0 in
+      let tests = and_parts _ (not (eqb count 0)) e in
+      let more = and_parts _ (eqb over 0) tests.0 in
+      let flags = and_parts x.flags.consecutive (eqb c x.separator) more.0 in
       let none_passed : over ≡ 0 = eqb-true over 0 more.1 in
       let counted : eqb count 0 ≡ false = not-true (eqb count 0) tests.1 in
       let positive = eqb-false count 0 counted in

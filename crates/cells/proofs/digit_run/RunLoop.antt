@@ -1,13 +1,6 @@
 -- The loop of a digit run: its numbers stand for the digits taken so far, and the run goes on from them. Over every word and radix.
 -- Assumes nothing.
-use mathlib.Core.Path.{◌≡◌, ◌∙◌, refl, ap}
-use mathlib.Core.Bool.{Bool, true, false}
-use mathlib.Core.List.{List, []}
-use Prim.Native.Nat.{ℕ, suc, ◌+◌, ◌-◌, ◌≤◌, ◌<◌, ◌^◌}
-use native.Mathlib.Omega.{arith}
-use borrow.Author.Tests.{lt-ltb, le-ltb, ne_eqb}
-use lib.Dec.{eqb}
-use lib.ListN.{length}
+use Rattle.std.proofs.Common.{◌≡◌, ℕ, suc, ◌+◌, ◌-◌, ◌^◌, ◌<◌, ◌≤◌, Bool, true, false, eqb, List, [], length, refl, ap, ◌∙◌, arith, le-ltb, lt-ltb, ne_eqb}
 use Rattle.word.specs.Digit.{digit_value}
 use Rattle.reader.specs.declared.state.Reader.{Reader}
 use Rattle.reader.specs.declared.state.State.{State}
@@ -51,7 +44,7 @@ module _ (x : Syntax) (s : List ℕ) (r : Reader) (st : State) where
         end = now.end;
         stands = now.stands;
         moved = now.moved;
-        known = λ e. absurd (let z : ◌≡◌ {A = ℕ} 0 1 = cc in omega arith);
+        known = λ e. absurd (cc);
         small = now.small;
       }
 
@@ -69,7 +62,7 @@ module _ (x : Syntax) (s : List ℕ) (r : Reader) (st : State) where
           end = rw (untouched, own_count_lem st r);
           stands = record { clear = admits.1; counted = admits.0; sums = rw (own_count_lem st r) inside.1; inside = inside.0 };
           moved = omega arith;
-          known = λ e. absurd (let z : ◌≡◌ {A = ℕ} 0 1 = cc in omega arith);
+          known = λ e. absurd (cc);
           small = omega arith;
         }
 

@@ -1,12 +1,5 @@
 -- A step of a digit run from a place with a count, over any reading: where it ends the run, and what it takes. Assumes nothing.
-use Rattle.std.specs.Prelude.{Option, Some, None}
-use mathlib.Core.Path.{◌≡◌, refl}
-use mathlib.Core.Bool.{Bool, true, false, cond, ◌&&◌}
-use mathlib.Core.List.{List, []}
-use Prim.Native.Nat.{ℕ, zero, suc, ◌+◌, ◌-◌, ◌≤◌, ◌<◌}
-use native.Mathlib.Omega.{arith}
-use lib.Dec.{eqb}
-use lib.ListN.{length, get_or}
+use Rattle.std.proofs.Common.{◌≡◌, ℕ, zero, suc, ◌+◌, ◌-◌, ◌<◌, ◌≤◌, Bool, true, false, cond, ◌&&◌, eqb, List, [], length, get_or, Some, None, Option, refl, arith}
 use Rattle.reader.specs.declared.state.Reader.{Reader}
 use Rattle.reader.specs.declared.state.Reader.TheVariants.{Integer, Fraction, Exponent, Special}
 use Rattle.reader.specs.declared.state.State.{State}
@@ -34,7 +27,7 @@ sum_stays st Special at to count = refl
 pub digit_inside : (m : Reading) (s : List ℕ) (at : ℕ) → sees_digit m (byte_at s at) ≡ true → at < length s
 digit_inside m s at = go (byte_at s at) refl where
   go : (o : Option ℕ) → byte_at s at ≡ o → sees_digit m o ≡ true → at < length s
-  go None e h = absurd (let z : ◌≡◌ {A = ℕ} 0 1 = cc in omega arith)
+  go None e h = absurd (cc)
   go (Some b) e h = byte_inside s at b e
 
 -- the count behind a byte

@@ -1,17 +1,12 @@
 -- A value with one digit more, for every radix together. Assumes nothing.
-use mathlib.Core.Path.{◌≡◌, refl}
-use mathlib.Core.Bool.{Bool, true, false, cond}
-use mathlib.Core.List.{List, [], ◌∷◌}
-use Rattle.std.specs.Prelude.{Option, Some, None}
-use Prim.Native.Nat.{ℕ, zero, suc, ◌+◌, ◌*◌, ◌-◌, ◌≤◌, ◌<◌, ◌^◌}
-use native.Mathlib.Nat.{mul-le-mul}
-use native.Mathlib.Omega.{arith}
-use lib.Dec.{ltb, leb}
-use borrow.Author.Tests.{lt-ltb, le-ltb, ltb-true, ltb-false, leb-true}
+use Rattle.std.proofs.Common.{◌≡◌, ◌∙◌, ℕ, zero, suc, ◌+◌, ◌-◌, ◌*◌, ◌^◌, ◌<◌, ◌≤◌, Bool, true, false, cond, ltb, List, [], ◌∷◌, Some, None, Option, refl, mul-le-mul, arith, ltb-false, ltb-true, le-ltb, lt-ltb}
+use Rattle.std.specs.Prelude.{Result, Ok, Err}
+use Rattle.std.specs.Result.{OkIff, result_ok}
+use Rattle.std.proofs.lemmas.Option.{same_Some}
 use Rattle.word.specs.Digit.{among, digit_value}
+use Rattle.word.proofs.digit.Table.{up_to}
 use Rattle.cells.specs.Value.{with_digit, value_from}
 use Rattle.cells.specs.Code.Growth.{grown_to}
-use Rattle.cells.proofs.Booleans.{both}
 
 -- a number up to a bound times a radix of eight bits
 pub times_fits : (bound v radix : ℕ) → v ≤ bound → radix < 256 → v * radix ≤ bound * 255
@@ -27,6 +22,11 @@ fits_in v n same h = rw (lt-ltb n (2 ^ 64) h, same)
 pub grows_out : (n : ℕ) → 2 ^ 64 ≤ n → None ≡ grown_to n
 unfolding grown_to
 grows_out n h = rw (le-ltb n (2 ^ 64) h)
+
+-- what a conversion to 64 bits makes of a value
+pub converted : {E : Type 0} (r : Result ℕ E) (n v : ℕ) → n ≡ v → OkIff r (n < 2 ^ 64) n → result_ok r ≡ grown_to v
+converted (Ok x) n v same held = fits_in x v (held.1 ∙ same) (omega (arith, same, held.0))
+converted (Err e) n v same above = grows_out v (omega (arith, same, above))
 
 -- and what is known of it either way
 pub grown_in : (n v : ℕ) → grown_to n ≡ Some v → (v ≡ n) × (n < 2 ^ 64)
@@ -47,17 +47,11 @@ grown_out n = go (ltb n (2 ^ 64)) refl where
 pub value_small : (c d : ℕ) → digit_value c ≡ Some d → d < 36
 unfolding digit_value
 value_small c d = go (among 48 57 c) (among 65 90 c) (among 97 122 c) refl refl refl where
-  same : (a b : ℕ) → Some a ≡ Some b → a ≡ b
-  same a b e = cc
-
-  up_to : (first last : ℕ) → among first last c ≡ true → c ≤ last
-  up_to first last e = leb-true c last (both (leb first c) (leb c last) e).1
-
   go : (t u v : Bool) → among 48 57 c ≡ t → among 65 90 c ≡ u → among 97 122 c ≡ v
       → cond t (Some (c - 48)) (cond u (Some (c - 65 + 10)) (cond v (Some (c - 97 + 10)) None)) ≡ Some d → d < 36
-  go true u v e f g h = omega (arith, same _ _ h, up_to 48 57 e)
-  go false true v e f g h = omega (arith, same _ _ h, up_to 65 90 f)
-  go false false true e f g h = omega (arith, same _ _ h, up_to 97 122 g)
+  go true u v e f g h = omega (arith, same_Some _ _ h, up_to 48 57 c e)
+  go false true v e f g h = omega (arith, same_Some _ _ h, up_to 65 90 c f)
+  go false false true e f g h = omega (arith, same_Some _ _ h, up_to 97 122 c g)
   go false false false e f g h = absurd (cc)
 
 -- a value that has outgrown 64 bits stays so, whatever digits follow: the radix that outgrew it is above 0

@@ -19,10 +19,11 @@ use Rattle.reader.specs.Repeat.{until_none}
 use Rattle.reader.specs.Calls.{peek_of, next_of, taken_from, read_if_of}
 use Rattle.reader.specs.ZeroSkip.{is_zero, skip_refusal, zero_read_of, skip_zeros_of}
 use Rattle.export.specs.State.{state_in, state_words, reader_on}
-use Rattle.export.specs.Answer.{byte_words}
+use Rattle.export.specs.Answer.{byte_words, read_words}
 use Rattle.export.specs.Calls.{peeked_by, taken_by, read_by, skipped_by}
-use Rattle.export.specs.Code.Here.{own_flags, words_at}
+use Rattle.export.specs.Code.Here.{own_flags, place_words, words_at}
 use Rattle.export.proofs.here.CountedReaders.{counted_reader, named_on, own_flags_lem, at_words}
+use Rattle.export.proofs.here.LentWords.{unmoved}
 use Rattle.export.proofs.here.Sight.{Sight}
 
 -- a call that answers no byte is not made again
@@ -58,9 +59,17 @@ module _ (n : ℕ) (w s : List ℕ) (here : Sight n w s None) where
   unfolding taken_by next_of
   taken_end = rw (by n w s None here, peek_here n w s None here)
 
-  pub read_end : (wanted : ℕ → Bool) → read_by n w s wanted ≡ record { outcome = seen_at w None; seen = None }
+  read_end : (wanted : ℕ → Bool) → read_by n w s wanted ≡ record { outcome = seen_at w None; seen = None }
   unfolding read_by read_if_of
   read_end wanted = rw (by n w s None here, peek_here n w s None here)
+
+  pub read_end_words : (wanted : ℕ → Bool) → length w ≡ 8 → (old : List ℕ)
+      → record {
+        number : 0 ≡ (read_by n w s wanted).outcome.refusal;
+        moved : w ≡ state_words w (read_by n w s wanted).outcome.state;
+        written : (0 ∷ get_or old 1 0 ∷ 0 ∷ 0 ∷ []) ≡ read_words old (read_by n w s wanted);
+      }
+  read_end_words wanted eight old = rw (read_end wanted) (record { number = refl; moved = unmoved w eight; written = refl })
 
 -- a byte
 module _ (n : ℕ) (w s : List ℕ) (b : ℕ) (here : Sight n w s (Some b)) where
@@ -92,14 +101,33 @@ module _ (n : ℕ) (w s : List ℕ) (b : ℕ) (here : Sight n w s (Some b)) wher
       rw (taken_byte, same) (record { number = refl; moved = at_words n here.low w counted (get_or w 2 0 + 1); written = refl })
 
   -- a read of a byte that is wanted, and of one that is not
-  pub read_taken : (wanted : ℕ → Bool) → wanted b ≡ true
+  read_taken : (wanted : ℕ → Bool) → wanted b ≡ true
       → read_by n w s wanted ≡ record { outcome = record { refusal = 0; byte = Some b; taken = 1; passed = 0; state = moved_to (state_in w) (get_or w 2 0 + 1) }; seen = Some b }
   unfolding read_by read_if_of
   read_taken wanted holds = rw (by n w s (Some b) here, peek_here n w s (Some b) here, holds)
 
-  pub read_declined_lem : (wanted : ℕ → Bool) → wanted b ≡ false → read_by n w s wanted ≡ record { outcome = seen_at w None; seen = Some b }
+  read_declined_lem : (wanted : ℕ → Bool) → wanted b ≡ false → read_by n w s wanted ≡ record { outcome = seen_at w None; seen = Some b }
   unfolding read_by read_if_of
   read_declined_lem wanted fails = rw (by n w s (Some b) here, peek_here n w s (Some b) here, fails)
+
+  -- the words that they write
+  pub read_taken_words : (wanted : ℕ → Bool) → wanted b ≡ true → (old : List ℕ)
+      → record {
+        number : 0 ≡ (read_by n w s wanted).outcome.refusal;
+        moved : place_words w (get_or w 2 0 + 1) ≡ state_words w (read_by n w s wanted).outcome.state;
+        written : (1 ∷ b ∷ 1 ∷ 0 ∷ []) ≡ read_words old (read_by n w s wanted);
+      }
+  unfolding moved_to
+  read_taken_words wanted holds old = rw (read_taken wanted holds) (record { number = refl; moved = refl; written = refl })
+
+  pub read_declined_words : (wanted : ℕ → Bool) → wanted b ≡ false → length w ≡ 8 → (old : List ℕ)
+      → record {
+        number : 0 ≡ (read_by n w s wanted).outcome.refusal;
+        moved : w ≡ state_words w (read_by n w s wanted).outcome.state;
+        written : (2 ∷ b ∷ 0 ∷ 0 ∷ []) ≡ read_words old (read_by n w s wanted);
+      }
+  read_declined_words wanted fails eight old =
+      rw (read_declined_lem wanted fails) (record { number = refl; moved = unmoved w eight; written = refl })
 
 -- a zero skip that finds no zero
 module _ (n : ℕ) (w s : List ℕ) (seen : Option ℕ) (here : Sight n w s seen) where

@@ -105,7 +105,8 @@ module _ (n : ℕ) (w s : List ℕ) (over : is_over n w s ≡ true) where
 
     pub peek_over_words : (old : List ℕ)
         → record { number : 0 ≡ (peeked_by n w s).refusal; moved : over_state n w false ≡ state_words w (peeked_by n w s).state; written : over_answer w s false ≡ byte_words old (peeked_by n w s) }
-    peek_over_words old = rw peeked_over (record { number = refl; moved = at_words n here.low w false (get_or w 2 0 + 1); written = refl })
+    unfolding moved_to
+    peek_over_words old = rw peeked_over (record { number = refl; moved = refl; written = refl })
 
     pub next_over_words : (old : List ℕ)
         → record { number : 0 ≡ (taken_by n w s).refusal; moved : over_state n w true ≡ state_words w (taken_by n w s).state; written : over_answer w s true ≡ byte_words old (taken_by n w s) }

@@ -30,7 +30,12 @@ under_cursor w s =
 unfoldable pub here_of : ℕ → List ℕ → List ℕ → Here
 here_of n w s = cond (is_served n w && is_clear n w) (under_cursor w s) Other
 
--- the words with the cursor at a place, and the count of the reader n raised if a byte is counted
+-- the words with the cursor at a place
+abbrev pub place_words : List ℕ → ℕ → List ℕ
+place_words w place =
+    slice_index w 0 ∷ slice_index w 1 ∷ place ∷ slice_index w 3 ∷ slice_index w 4 ∷ slice_index w 5 ∷ slice_index w 6 ∷ slice_index w 7 ∷ []
+
+-- the same, and the count of the reader n raised if a byte is counted
 abbrev pub words_at : List ℕ → ℕ → Bool → ℕ → List ℕ
 words_at w n counted place =
     slice_index w 0 ∷ slice_index w 1 ∷ place ∷ cond (nat_eq n 0 && counted) (slice_index w 3 + 1) (slice_index w 3)

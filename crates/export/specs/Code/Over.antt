@@ -4,7 +4,7 @@ use Rattle.std.specs.Prelude.{ℕ, ◌+◌, Bool, true, false, cond, not, ◌||�
 use Rattle.word.specs.Word.{flag, digit_separator, mantissa_radix}
 use Rattle.word.specs.Digit.{is_digit}
 use Rattle.export.specs.State.{state_in}
-use Rattle.export.specs.Code.Here.{words_at}
+use Rattle.export.specs.Code.Here.{place_words, words_at}
 
 abbrev pub behind : List ℕ → List ℕ → ℕ
 behind w s = slice_index s (slice_index w 2 + 1)
@@ -19,7 +19,7 @@ is_over n w s =
 
 -- the words that a peek and a take write there
 abbrev pub over_state : ℕ → List ℕ → Bool → List ℕ
-over_state n w takes = cond takes (words_at w n true (slice_index w 2 + 1 + 1)) (words_at w n false (slice_index w 2 + 1))
+over_state n w takes = cond takes (words_at w n true (slice_index w 2 + 1 + 1)) (place_words w (slice_index w 2 + 1))
 
 abbrev pub over_answer : List ℕ → List ℕ → Bool → List ℕ
 over_answer w s takes = 1 ∷ behind w s ∷ cond takes 1 0 ∷ 1 ∷ []

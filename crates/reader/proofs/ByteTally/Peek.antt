@@ -1,6 +1,5 @@
 -- A peek from any state, refused or not: it moves over what it passed, which is separators where its rule holds. Assumes nothing.
-use Rattle.std.specs.Prelude.{Some}
-use Rattle.std.proofs.Common.{◌≡◌, ℕ, ◌+◌, ◌<◌, ◌≤◌, Bool, true, false, eqb, List, length, take, drop, replicate, refl, add-zero, arith, eqb-true}
+use Rattle.std.proofs.Common.{◌≡◌, ℕ, ◌+◌, ◌<◌, ◌≤◌, Bool, true, false, eqb, List, length, take, drop, replicate, Some, refl, add-zero, arith, eqb-true}
 use Rattle.reader.specs.declared.state.Reader.{Reader}
 use Rattle.reader.specs.declared.state.State.{State}
 use Rattle.reader.specs.Place.{byte_at}
@@ -26,7 +25,7 @@ unfolding moved_to
 refused_peeks m s st r number =
     record {
       moves = rw (add-zero st.cursor);
-      sees = λ b e. absurd (let z : ◌≡◌ {A = ℕ} 0 1 = cc in omega arith);
+      sees = λ b e. absurd (cc);
       only = refl;
       by_rule = λ h. absurd (omega arith);
       inside = λ h. omega arith;

@@ -1,12 +1,10 @@
 -- Where a reading settles, a reader passes nothing at the place behind what it passed: for a peek put in before a call. Assumes nothing.
-use Rattle.std.specs.Prelude.{Option, Some, None, slice_get}
-use Rattle.std.proofs.Common.{◌≡◌, ℕ, ◌+◌, Bool, true, false, List, get_or, drop, refl, ap, ◌∙◌, add-zero, add-one}
+use Rattle.std.proofs.Common.{◌≡◌, ℕ, ◌+◌, Bool, true, false, List, get_or, drop, slice_get, Some, None, Option, refl, ap, ◌∙◌, add-zero, add-one, ◌&&◌}
 use Rattle.reader.specs.declared.rule.Neighbour.{Neighbour}
 use Rattle.reader.specs.Place.{is_separator, byte_at, before, after, first_other, separator_run, nearest}
 use Rattle.reader.specs.Reading.{Reading, neighbour_of, previous, following, passes_byte, may_pass, passed_at}
 use Rattle.reader.proofs.passing.Places.{before_next, run_byte, byte_inside, byte_here}
 use Rattle.reader.proofs.passing.Passed.{PassesHere, other_differs, passes_here, passes_none, passes_one, passes_run}
-use Rattle.reader.proofs.Booleans.{and_fails}
 
 -- The one law that a tally asks of a reading: without the consecutive flag, a rule that holds in front of a separator does not hold
 -- right behind one.
@@ -16,7 +14,11 @@ pub record Settles (m : Reading) : Type 0 where
       → m.flags.consecutive ≡ false → is_separator m.separator b ≡ true → is_separator m.separator x ≡ true
       → m.rule is_first p (neighbour_of m (Some x)) ≡ true → m.rule is_first (neighbour_of m (Some b)) n ≡ false
 
-plain_nearest : (separator : ℕ) (consecutive : Bool) (bytes : List ℕ) → consecutive ≡ false → nearest separator consecutive bytes ≡ slice_get bytes 0
+and_fails : (a b : Bool) → (a ≡ true → b ≡ false) → (a && b) ≡ false
+and_fails true b h = h refl
+and_fails false b h = refl
+
+pub plain_nearest : (separator : ℕ) (consecutive : Bool) (bytes : List ℕ) → consecutive ≡ false → nearest separator consecutive bytes ≡ slice_get bytes 0
 plain_nearest separator consecutive bytes e = rw e
 
 module _ (m : Reading) (law : Settles m) (s : List ℕ) (is_first : Bool) (place : ℕ) where

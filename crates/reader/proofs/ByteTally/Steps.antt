@@ -1,7 +1,6 @@
 -- Each call moves the state by its step of the history: over any reading, refused calls included. Demand 1 of takes to the end goes by
 -- it too. Assumes nothing.
-use Rattle.std.specs.Prelude.{Option, Some, None, slice_get}
-use Rattle.std.proofs.Common.{◌≡◌, ℕ, ◌+◌, ◌-◌, ◌<◌, ◌≤◌, min, Bool, true, false, cond, ◌&&◌, eqb, List, [], ◌∷◌, length, take, drop, replicate, sym, refl, ◌∙◌, add-zero, arith, length-drop, length-take-le}
+use Rattle.std.proofs.Common.{◌≡◌, ℕ, ◌+◌, ◌-◌, ◌<◌, ◌≤◌, min, Bool, true, false, cond, ◌&&◌, eqb, List, [], ◌∷◌, length, take, drop, replicate, slice_get, Some, None, Option, sym, refl, ◌∙◌, add-zero, arith, length-drop, length-take-le}
 use Rattle.reader.specs.declared.state.Reader.{Reader}
 use Rattle.reader.specs.declared.state.State.{State}
 use Rattle.reader.specs.declared.rule.Flags.{Flags}
@@ -93,7 +92,7 @@ module _ (m : Reader → Reading) (st : State) (r : Reader) (b : ℕ) where
 -- STEPS
 
 first_byte : (l : List ℕ) (b : ℕ) → slice_get l 0 ≡ Some b → take 1 l ≡ b ∷ []
-first_byte [] b e = absurd (let z : ◌≡◌ {A = ℕ} 0 1 = cc in omega arith)
+first_byte [] b e = absurd (cc)
 first_byte (c ∷ l) b e = let same : c ≡ b = cc in rw same
 
 module _ (m : Reader → Reading) (s : List ℕ) (st : State) (r : Reader) (kind : Kind) (o : Outcome) (seen : Peeks (m r) s st r o) where

@@ -1,8 +1,8 @@
 -- What a zero skip answers beside its reads, and what it adds to the count of the history: as many zeros as there are reads that took
 -- one. Over any reading. Assumes nothing.
-use Rattle.std.specs.Prelude.{Option, Some, None}
-use Rattle.std.proofs.Common.{◌≡◌, ℕ, zero, suc, ◌+◌, ◌≤◌, Bool, true, false, cond, eqb, List, [], ◌∷◌, length, sym, refl, ap, ◌∙◌, subst, add-zero, arith, eqb-true}
+use Rattle.std.proofs.Common.{◌≡◌, ℕ, zero, suc, ◌+◌, ◌≤◌, Bool, true, false, cond, eqb, List, [], ◌∷◌, length, Some, None, Option, sym, refl, ap, ◌∙◌, subst, add-zero, arith, eqb-true}
 use borrow.Author.Tests.{eqb-false}
+use Rattle.std.proofs.lemmas.Option.{none-some}
 use Rattle.reader.specs.declared.state.Reader.{Reader}
 use Rattle.reader.specs.declared.state.State.{State}
 use Rattle.reader.specs.Reading.{Reading}
@@ -12,7 +12,6 @@ use Rattle.reader.specs.Repeat.{summed, if_byte, until_none, repeated}
 use Rattle.reader.specs.ZeroSkip.{is_zero, raised, zero_read_of, zero_reads_of, skip_refusal, skipped, skip_zeros_of}
 use Rattle.reader.specs.History.{Call, peek_by, take_by, read_if_by, zero_skip_by, block_by, Answered, with_seen, outcomes_of, reads_made, answer_by, a_zero_read, byte_taken, step_of, zero_steps, steps_of, Step, zeros_told, counts_for, history_count, step_count}
 use Rattle.reader.specs.ByteTally.{CountsAgree, reads_that_took, taken_by_reads, passed_by_reads, ZerosThenNone, SkipTold, AnswerTold}
-use Rattle.reader.proofs.passing.Places.{none_there}
 use Rattle.reader.proofs.state.Refusals.{skip_admits, peek_admitted}
 use Rattle.reader.proofs.iterator.ConditionalReads.{read_cases}
 use Rattle.reader.proofs.iterator.Zeros.{zero_takes_one, outcomes_back, skip_cases}
@@ -32,10 +31,10 @@ module _ (m : Reading) (s : List ℕ) (st : State) (r : Reader) where
         (c : ℕ) (t : Bool) → wanted c ≡ t → seen.byte ≡ Some c → (read_byte_if wanted seen (Some c)).byte ≡ Some b
         → (seen.byte ≡ Some b) × (wanted b ≡ true)
     asked c true t e h = let k : Some c ≡ Some b = rw t at h in let same : c ≡ b = cc in (e ∙ k, rw same at t)
-    asked c false t e h = absurd (none_there b (rw t at h))
+    asked c false t e h = absurd (none-some b (rw t at h))
 
     go : (o : Option ℕ) → seen.byte ≡ o → (read_byte_if wanted seen o).byte ≡ Some b → (seen.byte ≡ Some b) × (wanted b ≡ true)
-    go None e h = absurd (none_there b (sym e ∙ h))
+    go None e h = absurd (none-some b (sym e ∙ h))
     go (Some c) e h = asked c (wanted c) refl e h
 
   -- and one that it declines is not
@@ -43,7 +42,7 @@ module _ (m : Reading) (s : List ℕ) (st : State) (r : Reader) where
   unfolding read_if_of
   declined_other wanted b h e = go (wanted b) refl (rw e at h) where
     go : (t : Bool) → wanted b ≡ t → (read_byte_if wanted seen (Some b)).byte ≡ None → wanted b ≡ false
-    go true t k = absurd (none_there b (sym (rw t at k)))
+    go true t k = absurd (none-some b (sym (rw t at k)))
     go false t k = t
 
   raised_byte : (o : Outcome) (b : Option ℕ) → (raised r o b).byte ≡ o.byte

@@ -14,12 +14,12 @@ use Rattle.reader.specs.Reading.{Reading}
 use Rattle.reader.specs.Code.TakeSums.{sums_outcome}
 use Rattle.reader.specs.Calls.{next_all_of, own_count}
 use Rattle.reader.specs.Code.Pairs.{pairs_of}
-use Rattle.reader.specs.Column.{no_totals, cell_totals, totals_of, part_from}
+use Rattle.reader.specs.Column.{cell_totals, totals_of, part_from}
 use Rattle.reader.specs.Code.OrdinaryCells.{Countable, Ordinary, fills_of, is_quick, passing, doubles, before_digits, digits_of, ordinary_totals}
 use Rattle.reader.proofs.passing.Places.{no_separator}
 use Rattle.reader.proofs.state.Updates.{given_count}
 
--- A part of a slice: its length, its bytes, and when it is an ordinary cell.
+-- A part of a slice: its length and its bytes.
 module _ (s : List ℕ) (start end : ℕ) (ordered : start ≤ end) (inside : end ≤ length s) where
   pub part_length : length (part_from s start end) ≡ end - start
   part_length = simp (length-take, length-drop) (omega arith)
@@ -27,20 +27,12 @@ module _ (s : List ℕ) (start end : ℕ) (ordered : start ≤ end) (inside : en
   pub part_byte : (i : ℕ) → i < end - start → get_or (part_from s start end) i 0 ≡ get_or s (start + i) 0
   part_byte i h = rw (get_or-take, get_or-drop)
 
-  pub empty_cell : (x : Syntax) → end ≤ start → Ordinary x (part_from s start end)
-  empty_cell x empty =
-      record { begins = λ h. absurd (omega (arith, part_length)); ends = λ h. absurd (omega (arith, part_length)) }
+-- when a cell is ordinary
+pub empty_cell : (x : Syntax) (s : List ℕ) → length s ≡ 0 → Ordinary x s
+empty_cell x s empty = record { begins = λ h. absurd (omega (arith, empty)); ends = λ h. absurd (omega (arith, empty)) }
 
-  pub ordinary_cell :
-      (x : Syntax) → start < end → is_digit (get_or s start 0) x.radix ≡ true → (get_or s (end - 1) 0 ≡ x.separator → ⊥)
-      → Ordinary x (part_from s start end)
-  ordinary_cell x filled digit other =
-      let first : start + 0 ≡ start = omega arith in
-      let last : start + (end - start - 1) ≡ end - 1 = omega arith in
-      record {
-        begins = λ h. rw (part_byte 0 (omega arith), first) digit;
-        ends = λ h. rw (part_length, part_byte (end - start - 1) (omega arith), last) (no_separator x.separator _ other);
-      }
+pub ordinary_cell : (x : Syntax) (s : List ℕ) → is_digit (get_or s 0 0) x.radix ≡ true → (get_or s (length s - 1) 0 ≡ x.separator → ⊥) → Ordinary x s
+ordinary_cell x s digit other = record { begins = λ h. digit; ends = λ h. no_separator x.separator _ other }
 
 -- where no pair of separators is counted, no two stand side by side
 none_double :
@@ -74,10 +66,6 @@ quick_told x r s filled q =
     }
 
 -- the last end is the one at the last index, if there is any
-pub none_fills : (s ends : List ℕ) → length ends ≡ 0 → false ≡ fills_of s ends
-none_fills s [] e = refl
-none_fills s (end ∷ ends) e = absurd (omega arith)
-
 pub fills_told : (s ends : List ℕ) → 0 < length ends → leb (length s) (get_or ends (length ends - 1) 0) ≡ fills_of s ends
 fills_told s [] filled = absurd (omega arith)
 fills_told s (end ∷ []) filled = refl
@@ -103,9 +91,9 @@ first_and_behind x [] filled = absurd (omega arith)
 first_and_behind x (b ∷ l) filled = rw (behind_digits x b l)
 
 -- what a stretch adds: nothing where it is empty, else as it begins with a digit or not
-pub empty_stretch : (x : Syntax) (s : List ℕ) → length s ≡ 0 → no_totals ≡ ordinary_totals x s
-empty_stretch x [] e = refl
-empty_stretch x (b ∷ s) e = absurd (omega arith)
+pub empty_stretch : (x : Syntax) (s : List ℕ) (t : Totals) → (t.taken ≡ 0) × ((t.passed ≡ 0) × (t.digits ≡ 0)) → length s ≡ 0 → t ≡ ordinary_totals x s
+empty_stretch x [] t none e = rw (none.0, none.1.0, none.1.1)
+empty_stretch x (b ∷ s) t none e = absurd (omega arith)
 
 pub stretch_told :
     (x : Syntax) (s : List ℕ) (passed behind digits : ℕ) (first : Bool)

@@ -1,8 +1,8 @@
 -- An ordinary cell, taken to its end from a fresh state, adds what its pairs tell: behind its first digit each separator is judged by
 -- the byte behind it alone, and no two are passed together. Assumes nothing.
-use Rattle.std.specs.Prelude.{Some, None}
-use Rattle.std.proofs.Common.{◌≡◌, ℕ, zero, suc, ◌+◌, ◌-◌, ◌<◌, ◌≤◌, Bool, true, false, cond, ◌&&◌, eqb, ltb, List, length, get_or, drop, sym, refl, ap, ◌∙◌, add-one, arith, drop_of_length-le, drop-cons, ltb-false, ltb-true, eq-eqb, ne_eqb, eqb-true}
+use Rattle.std.proofs.Common.{◌≡◌, ℕ, zero, suc, ◌+◌, ◌-◌, ◌<◌, ◌≤◌, Bool, true, false, cond, ◌&&◌, eqb, ltb, List, length, get_or, drop, Some, None, sym, refl, ap, ◌∙◌, add-one, arith, drop_of_length-le, drop-cons, ltb-false, ltb-true, eq-eqb, ne_eqb, eqb-true}
 use borrow.Author.Tests.{eqb-false}
+use Rattle.std.proofs.lemmas.Bool.{and_parts}
 use Rattle.word.specs.Digit.{is_digit}
 use Rattle.word.specs.declared.format_flags.Format.{Format}
 use Rattle.reader.specs.declared.state.Reader.{Reader}
@@ -23,7 +23,6 @@ use Rattle.reader.proofs.rule.CommonLaws.{later_looks_behind, single_stops}
 use Rattle.reader.proofs.state.Updates.{state_at, counted_tells, fresh_count}
 use Rattle.reader.proofs.skip.TakeLoop.{Running, running_starts, running_on, running_out}
 use Rattle.reader.proofs.pairs.Counts.{one_pair, no_pair}
-use Rattle.reader.proofs.Booleans.{and_right}
 
 -- the digits from a place on
 digits_from_lem : (radix : ℕ) (s : List ℕ) (at : ℕ) → at < length s
@@ -42,7 +41,7 @@ positive_on false count h = h
 module _ (x : Syntax) (r : Reader) (s : List ℕ) (q : Countable x r s) where
   -- a byte that is a digit is no separator
   digit_is_other : (b : ℕ) → is_digit b x.radix ≡ true → b ≡ x.separator → ⊥
-  digit_is_other b d e = let z : ◌≡◌ {A = ℕ} 0 1 = let w = sym d ∙ ap (λ (n : ℕ). is_digit n x.radix) e ∙ q.apart in cc in omega arith
+  digit_is_other b d e = cc (sym d ∙ ap (λ (n : ℕ). is_digit n x.radix) e ∙ q.apart)
 
   -- a pair counts exactly where the rule holds of the byte behind the separator
   hit_is_rule : (b n : ℕ) → b ≡ x.separator
@@ -98,7 +97,7 @@ module _ (x : Syntax) (r : Reader) (s : List ℕ) (q : Countable x r s) where
       go true c = q.single c at inside equal e
       go false c =
           let stops : matches_of (passing x) (get_or s at 0) x.separator ≡ false = rw (eq-eqb (get_or s at 0) x.separator equal, q.apart, eq-eqb x.separator x.separator refl) (single_stops x.flags nothing_before c) in
-          let z : ◌≡◌ {A = ℕ} 0 1 = let w = sym t ∙ ap (matches_of (passing x) (get_or s at 0)) e ∙ stops in cc in omega arith
+          cc (sym t ∙ ap (matches_of (passing x) (get_or s at 0)) e ∙ stops)
 
     run_of_one : is_separator x.separator (get_or s (at + 1) 0) ≡ false
         → at + 1 ≡ at + cond x.flags.consecutive (separator_run x.separator (drop at s)) 1
@@ -187,7 +186,7 @@ module _ (x : Syntax) (r : Reader) (s : List ℕ) (q : Countable x r s) where
               let out = ltb-false (at + 1) (length s) t in
               let last : length s - 1 ≡ at = omega arith in
               let other = rw last at (o.ends (omega arith)) in
-              absurd (let z : ◌≡◌ {A = ℕ} 0 1 = let w = sym other ∙ is_separator_lem x.separator (get_or s at 0) q.positive e in cc in omega arith)
+              absurd (cc (sym other ∙ is_separator_lem x.separator (get_or s at 0) q.positive e))
 
         takes_one : at < length s → Tells at count passed
         takes_one h = go (eqb (get_or s at 0) x.separator) refl where
@@ -233,4 +232,4 @@ module _ (x : Syntax) (r : Reader) (s : List ℕ) (q : Countable x r s) where
           told_so _ _ _ _ (omega arith) (omega arith) (told_from (length s) 1 1 0 (omega arith) (omega arith) on)
 
     pub ordinary_told : totals_of r (next_all_of (reading_with x) s st r) ≡ ordinary_totals x s
-    ordinary_told = rw (told_whole, counted_tells st r (length s) (digits_of x.radix s) (and_right (has_any_flag x.flags) (is_counted r) q.counts))
+    ordinary_told = rw (told_whole, counted_tells st r (length s) (digits_of x.radix s) (and_parts (has_any_flag x.flags) (is_counted r) q.counts).1)

@@ -56,7 +56,7 @@ pairs_join x (d ∷ []) b plain positive = rw (alone b) where
   other = let first : length {A = ℕ} (d ∷ []) - 1 ≡ 0 = omega arith in rw first at (plain (omega arith))
 
   differ : d ≡ x.separator → ⊥
-  differ e = let z : ◌≡◌ {A = ℕ} 0 1 = let w = sym other ∙ is_separator_lem x.separator d positive e in cc in omega arith
+  differ e = cc (sym other ∙ is_separator_lem x.separator d positive e)
 
   alone : (l : List ℕ) → matches_before (passing x) d l ≡ false
   alone [] = refl

@@ -1,5 +1,6 @@
 -- The sums over a column's cells, as its loop adds them: stretch by stretch or cell by cell; and the call's outcome. Assumes nothing.
-use Rattle.std.proofs.Common.{◌≡◌, ℕ, ◌+◌, ◌≤◌, List, [], ◌∷◌, length, drop, sym, refl, ap, ◌∙◌, arith}
+use Rattle.std.proofs.Common.{◌≡◌, ℕ, ◌+◌, ◌≤◌, List, [], ◌∷◌, length, drop, sym, ap, ◌∙◌, arith}
+use Rattle.std.proofs.lemmas.List.{nil_from_length}
 use Rattle.word.specs.declared.format_flags.Format.{Format}
 use Rattle.reader.specs.declared.state.Reader.{Reader}
 use Rattle.reader.specs.declared.state.Refusal.{Refusal}
@@ -78,15 +79,11 @@ module _ (x : Syntax) (f : Format) (r : Reader) (s ends : List ℕ) where
               ∙ add_totals_assoc sums one rest;
         }
 
-    nothing_left : (l : List ℕ) → length l ≡ 0 → l ≡ []
-    nothing_left [] e = refl
-    nothing_left (end ∷ l) e = absurd (omega arith)
-
     -- behind the last cell
     pub sums_end : length left ≡ 0 → sums ≡ column_from (reading_with x) f r s 0 ends
     unfolding column_from
     sums_end out =
-        let over : left ≡ [] = nothing_left left out in
+        let over : left ≡ [] = nil_from_length left out in
         sym (here.totals ∙ rw over (same_totals (add_totals sums no_totals) sums (omega arith) (omega arith) (omega arith)))
 
 -- the call's outcome: the sums, or its refusal

@@ -1,7 +1,7 @@
 -- What a conditional read may answer, by cases; and that it asks its set only of bytes of the buffer, so that two sets that agree on
 -- all bytes read alike: for this room and both demands. Assumes nothing.
-use Rattle.std.specs.Prelude.{Option, Some, None}
-use Rattle.std.proofs.Common.{◌≡◌, ℕ, ◌+◌, ◌<◌, Bool, true, false, eqb, ltb, List, length, get_or, sym, refl, ap, ◌∙◌, ltb-false, ltb-true}
+use Rattle.std.proofs.Common.{◌≡◌, ℕ, ◌+◌, ◌<◌, Bool, true, false, eqb, List, length, get_or, Some, None, Option, refl, ap}
+use Rattle.std.proofs.lemmas.Option.{none-some}
 use Rattle.reader.specs.declared.state.Reader.{Reader}
 use Rattle.reader.specs.declared.state.State.{State}
 use Rattle.reader.specs.Reading.{Reading, passed_at}
@@ -9,7 +9,7 @@ use Rattle.reader.specs.Answer.{Outcome}
 use Rattle.reader.specs.Calls.{peek_of, read_taken, read_declined, read_byte_if, read_if_of, read_of, refusal_of, peeked}
 use Rattle.reader.specs.Place.{byte_at}
 use Rattle.reader.specs.State.{count_of}
-use Rattle.reader.proofs.passing.Places.{none_there, byte_here, no_byte}
+use Rattle.reader.proofs.passing.Places.{byte_here, byte_inside}
 
 module _ (m : Reading) (s : List ℕ) (st : State) (r : Reader) where
   abbrev seen : Outcome
@@ -31,21 +31,17 @@ module _ (m : Reading) (s : List ℕ) (st : State) (r : Reader) where
 
 module _ (s : List ℕ) (bytes : (i : ℕ) → i < length s → get_or s i 0 < 256) where
   byte_small : (k b : ℕ) → byte_at s k ≡ Some b → b < 256
-  byte_small k b e = go (ltb k (length s)) refl where
-    go : (t : Bool) → ltb k (length s) ≡ t → b < 256
-    go true t =
-        let h = ltb-true k (length s) t in
-        let same : get_or s k 0 ≡ b = cc (byte_here s k h) in
-        rw same at (bytes k h)
-    go false t =
-        absurd (none_there b (sym (no_byte s k (ltb-false k (length s) t)) ∙ e))
+  byte_small k b e =
+      let h = byte_inside s k b e in
+      let same : get_or s k 0 ≡ b = cc (byte_here s k h) in
+      rw same at (bytes k h)
 
   seen_small : (m : Reading) (st : State) (r : Reader) (b : ℕ) → (peek_of m s st r).byte ≡ Some b → b < 256
   unfolding peek_of peeked
   seen_small m st r b e = go (eqb (refusal_of m s st r) 0) refl e where
     go : (t : Bool) → eqb (refusal_of m s st r) 0 ≡ t → (peek_of m s st r).byte ≡ Some b → b < 256
     go true t h = byte_small (st.cursor + passed_at m s (eqb (count_of st r) 0) st.cursor) b (rw t at h)
-    go false t h = absurd (none_there b (rw t at h))
+    go false t h = absurd (none-some b (rw t at h))
 
   module _ (f g : ℕ → Bool) (agree : (b : ℕ) → b < 256 → f b ≡ g b) where
     same_read : (seen : Outcome) (o : Option ℕ) → ((b : ℕ) → o ≡ Some b → b < 256) → read_byte_if f seen o ≡ read_byte_if g seen o

@@ -1,7 +1,7 @@
 -- The loop of a zero skip on plain numbers: how its numbers stand for the state of a list of reads of `0`. Assumes nothing.
-use Rattle.std.specs.Prelude.{Some, None}
-use Rattle.std.proofs.Common.{◌≡◌, ℕ, ◌+◌, ◌-◌, ◌<◌, ◌≤◌, Bool, true, false, ◌&&◌, eqb, ltb, List, length, get_or, sym, refl, ap, ◌∙◌, add-zero, arith, ltb-false, ltb-true, eqb-true}
+use Rattle.std.proofs.Common.{◌≡◌, ℕ, ◌+◌, ◌-◌, ◌<◌, ◌≤◌, Bool, true, false, ◌&&◌, eqb, ltb, List, length, get_or, Some, None, sym, refl, ap, ◌∙◌, add-zero, arith, ltb-false, ltb-true, eqb-true}
 use borrow.Author.Tests.{eqb-false}
+use Rattle.std.proofs.lemmas.Bool.{false≢true}
 use Rattle.reader.specs.declared.state.Reader.{Reader}
 use Rattle.reader.specs.declared.state.State.{State}
 use Rattle.reader.specs.declared.passing.Syntax.{Syntax}
@@ -18,7 +18,6 @@ use Rattle.reader.proofs.Repeats.{Repeating, repeating_starts, repeating_ends, r
 use Rattle.reader.proofs.state.Updates.{state_at, own_count_lem, at_cursor, past_byte, counts_one, counted_tells}
 use Rattle.reader.proofs.skip.LoopState.{Standing, standing_starts, standing_counts, standing_on, peeks_at}
 use Rattle.reader.proofs.iterator.Zeros.{zero_takes_one, skip_admitted}
-use Rattle.reader.proofs.Booleans.{contradicts}
 
 -- there is a byte at the place, and it is `0`
 abbrev pub zero_at : List ℕ → ℕ → Bool
@@ -28,7 +27,7 @@ pub zero_there : (s : List ℕ) (place : ℕ) → zero_at s place ≡ true → (
 zero_there s place t = go (ltb place (length s)) refl where
   go : (u : Bool) → ltb place (length s) ≡ u → (place < length s) × (is_zero (get_or s place 0) ≡ true)
   go true e = (ltb-true place (length s) e, rw e at t)
-  go false e = absurd (contradicts (rw e at t))
+  go false e = absurd (false≢true (rw e at t))
 
 -- a zero that is no separator: nothing is passed there
 pub record PlainZero (x : Syntax) (s : List ℕ) (at : ℕ) : Type 0 where

@@ -1,12 +1,12 @@
 -- Where `0` is the separator and is refused to a reader that has counted, so is the rest of its run, and the reads of a zero skip come to
 -- the run's end one by one, so the loop may go there at once. For the proof of `take_separator_zeros`. Assumes nothing.
 use Rattle.std.proofs.Common.{◌≡◌, ℕ, zero, suc, ◌+◌, ◌-◌, ◌<◌, Bool, true, false, cond, not, ◌&&◌, eqb, List, length, get_or, drop, sym, refl, ◌∙◌, add-one, arith, drop-cons, lt-ltb, eq-eqb, ne_eqb, eqb-true}
+use Rattle.std.proofs.lemmas.Bool.{and_parts}
 use Rattle.reader.specs.declared.state.Reader.{Reader}
 use Rattle.reader.specs.declared.state.State.{State}
 use Rattle.reader.specs.Place.{separator_run}
 use Rattle.reader.specs.Reading.{Reading, may_pass, passed_at}
 use Rattle.reader.specs.ZeroSkip.{skip_refusal}
-use Rattle.reader.proofs.Booleans.{and_left, and_right}
 use Rattle.reader.proofs.passing.Places.{is_separator_lem}
 use Rattle.reader.proofs.passing.Passed.{separator_is}
 use Rattle.reader.proofs.passing.RefusedRuns.{inside, begins, positive, refused-first, refused_next, refused_stays}
@@ -72,8 +72,8 @@ module _
     all_read : refused_zero ≡ true → m.flags.consecutive ≡ true
         → Skipping m s r st (place + separator_run m.separator (drop place s)) (count + separator_run m.separator (drop place s)) (taken + separator_run m.separator (drop place s)) (passed + (place - at))
     all_read t consecutive =
-        let none : place - at ≡ 0 = eqb-true (place - at) 0 (and_left (eqb (place - at) 0) (not (eqb count 0)) t) in
-        let above = positive count (and_right (eqb (place - at) 0) (not (eqb count 0)) t) in
+        let none : place - at ≡ 0 = eqb-true (place - at) 0 (and_parts (eqb (place - at) 0) (not (eqb count 0)) t).0 in
+        let above = positive count (and_parts (eqb (place - at) 0) (not (eqb count 0)) t).1 in
         let stays : place ≡ at = omega (arith, none, lands) in
         let refused : passed_at m s (eqb count 0) at ≡ 0 = omega (arith, none, lands) in
         let nothing : passed + (place - at) ≡ passed = omega (arith, none) in
@@ -96,4 +96,4 @@ module _
       go true false e k l = one l
       go true true e k l =
           let run : to - place ≡ separator_run m.separator (drop place s) = omega arith in
-          rw (run, l) (all_read (and_left refused_zero (not (eqb m.separator 0)) e) k)
+          rw (run, l) (all_read (and_parts refused_zero (not (eqb m.separator 0)) e).0 k)

@@ -1,7 +1,7 @@
 -- The zero skip, read by read: what a read of it takes, what the skip answers where it is refused and where it is not, and that its
 -- reads have come to their end: for this room, and for the two demands. Assumes nothing.
-use Rattle.std.specs.Prelude.{Some, None}
-use Rattle.std.proofs.Common.{◌≡◌, ℕ, ◌+◌, Bool, true, false, eqb, List, [], ◌∷◌, length, sym, refl, ap, ◌∙◌}
+use Rattle.std.proofs.Common.{◌≡◌, ℕ, ◌+◌, Bool, true, false, eqb, List, [], ◌∷◌, length, Some, None, sym, refl, ap, ◌∙◌}
+use Rattle.std.proofs.lemmas.Option.{none-some}
 use Rattle.reader.specs.declared.state.Reader.{Reader}
 use Rattle.reader.specs.declared.state.State.{State}
 use Rattle.reader.specs.declared.state.Refusal.{Refusal}
@@ -12,7 +12,6 @@ use Rattle.reader.specs.Repeat.{repeated}
 use Rattle.reader.specs.ZeroSkip.{skip_refusal, is_zero, raised, zero_read_of, zero_reads_of, skipped, refused_skip, skip_zeros_of}
 use Rattle.reader.specs.History.{with_seen, outcomes_of, reads_made}
 use Rattle.reader.proofs.state.Refusals.{refusal_tells}
-use Rattle.reader.proofs.passing.Places.{none_there}
 use Rattle.reader.proofs.iterator.ConditionalReads.{read_cases}
 use Rattle.reader.proofs.Repeats.{TakesOne, repeated_ends}
 use Rattle.reader.proofs.state.Updates.{counted_stays}
@@ -26,8 +25,8 @@ zero_takes_one m s st r b =
     (λ c e h.
     let on = peek_byte m s st r c e in
     record { moves = counted_stays _ r ∙ ap (λ (n : ℕ). n + 1) on.moves; inside = on.inside; one = refl })
-    (λ h. absurd (none_there b h))
-    (λ e h. absurd (none_there b (rw e at h)))
+    (λ h. absurd (none-some b h))
+    (λ e h. absurd (none-some b (rw e at h)))
 
 module _ (m : Reading) (s : List ℕ) (st : State) (r : Reader) where
   pub skip_admitted : skip_refusal m.flags s st r ≡ 0 → skipped (repeated (length s) (zero_read_of m s r) st) ≡ skip_zeros_of m s st r

@@ -1,11 +1,11 @@
 -- What a plain peek finds past the end and within, and what a plain take makes of it. Assumes nothing.
-use Rattle.std.specs.Prelude.{Option, Some, None, Result, Ok, Err}
-use Rattle.std.proofs.Common.{◌≡◌, ℕ, ◌+◌, ◌<◌, ◌≤◌, max, Bool, true, false, leb, List, length, sym, refl, ap, ◌∙◌, arith, le-leb, add-zero}
+use Rattle.std.proofs.Common.{◌≡◌, ℕ, ◌+◌, ◌<◌, ◌≤◌, max, Bool, true, false, leb, List, length, Some, None, Ok, Err, Option, Result, sym, refl, ap, ◌∙◌, add-zero, arith, le-leb}
 use borrow.Author.Tests.{lt-leb}
+use Rattle.std.proofs.lemmas.Option.{none-some}
 use Rattle.reader.specs.declared.noskip.CursorPastEnd.{CursorPastEnd}
 use Rattle.reader.specs.Place.{byte_at}
 use Rattle.reader.specs.Plain.{PlainOutcome, plain_byte, taken_of, plain_outcome_of, plain_peek_of, plain_take_byte, plain_next_of}
-use Rattle.reader.proofs.passing.Places.{byte_inside, none_there}
+use Rattle.reader.proofs.passing.Places.{byte_inside}
 
 module _ (s : List ℕ) (at : ℕ) where
   pub past_end : length s < at → plain_peek_of s at ≡ record { refusal = 16; byte = None; taken = 0; passed = 0; cursor = at }
@@ -25,7 +25,7 @@ module _ (s : List ℕ) (at : ℕ) where
       go : (t : Bool) → leb at (length s) ≡ t → (o : Option ℕ) → o ≡ (plain_peek_of s at).byte → at + taken_of o ≤ max at (length s)
       go t e None same = omega arith
       go true e (Some b) same = let h = byte_inside s at b (sym (same ∙ rw e)) in omega (arith, h)
-      go false e (Some b) same = absurd (none_there b (sym (same ∙ rw e)))
+      go false e (Some b) same = absurd (none-some b (sym (same ∙ rw e)))
 
     pub taken : plain_outcome_of (record { report = record { found = x; taken = taken_of (plain_byte x); passed = 0 }; cursor = record { cursor = at + taken_of (plain_byte x) } }) ≡ plain_next_of s at
     unfolding plain_next_of

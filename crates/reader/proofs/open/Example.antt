@@ -1,7 +1,6 @@
 -- The example of document 01's call script, as far as it is the readers': the word is accepted, and two takes and a peek of the
 -- integer reader over `1_2`, by computation. Script's example prints their lines. Assumes nothing.
-use Rattle.std.specs.Prelude.{Some, None}
-use Rattle.std.proofs.Common.{◌≡◌, ℕ, List, [], ◌∷◌, refl}
+use Rattle.std.proofs.Common.{◌≡◌, ℕ, List, [], ◌∷◌, Some, None, refl}
 use Rattle.word.specs.Bits.{bit}
 use Rattle.word.specs.Word.{word, field, flag, radix_at}
 use Rattle.word.specs.Digit.{digit_value, is_digit}

@@ -1,7 +1,6 @@
 -- Laws of passing, a law for each way that the code returns: which neighbour it answers, and where a cursor lands: for the
 -- functions of src/passing.rt, the loops, and an ordinary cell of a column. Assumes nothing.
-use Rattle.std.specs.Prelude.{Option, None, slice_get}
-use Rattle.std.proofs.Common.{◌≡◌, ℕ, ◌+◌, ◌<◌, ◌≤◌, Bool, true, false, cond, List, length, get_or, drop, ap, ◌∙◌, arith}
+use Rattle.std.proofs.Common.{◌≡◌, ℕ, ◌+◌, ◌<◌, ◌≤◌, Bool, true, false, cond, List, length, get_or, drop, slice_get, None, Option, ap, ◌∙◌, arith}
 use Rattle.reader.specs.declared.rule.Neighbour.{Neighbour}
 use Rattle.reader.specs.declared.passing.Syntax.{Syntax}
 use Rattle.reader.specs.Rule.{rule_of}
@@ -9,7 +8,7 @@ use Rattle.word.specs.Bits.{bit}
 use Rattle.reader.specs.Code.RuleWords.{code_of}
 use Rattle.reader.specs.Place.{is_separator, byte_at, after, first_other, separator_run, nearest}
 use Rattle.reader.specs.Reading.{reading_with, neighbour_of, previous, following, may_pass, passed_at}
-use Rattle.reader.proofs.passing.Places.{byte_here, no_byte, is_separator_lem, run_end}
+use Rattle.reader.proofs.passing.Places.{byte_here, no_byte, is_separator_lem}
 
 -- the neighbour of a place on one side, whose bytes these are, where it is wanted
 abbrev pub neighbour_where : Syntax → Bool → List ℕ → Neighbour
@@ -71,15 +70,8 @@ module _ (x : Syntax) (s : List ℕ) (is_first : Bool) (at : ℕ) where
       unfolding passed_at may_pass reading_with
       passed = rw (byte_here s at h, is_separator_lem x.separator _ positive equal, asked)
 
-      pub passes_one : may ≡ true → x.flags.consecutive ≡ false → at + 1 ≡ landing_of
-      passes_one t k = rw (passed, t, k)
-
-      -- the same where the rule was asked of the byte behind alone
       pub stays_behind : may ≡ false → at ≡ landing_of
       stays_behind t = rw (passed, t) (omega arith)
 
       pub passes_behind : (r : ℕ) → may ≡ true → r ≡ at + cond x.flags.consecutive (separator_run x.separator (drop at s)) 1 → r ≡ landing_of
       passes_behind r t e = rw (passed, t) e
-
-      pub passes_run : (r : ℕ) → may ≡ true → x.flags.consecutive ≡ true → r ≡ run_end x.separator s at → r ≡ landing_of
-      passes_run r t k e = rw (passed, t, k) e

@@ -1,11 +1,10 @@
 -- What a reader passes at a place, over any reading: separators only, within the buffer, and only where its rule lets it. The calls of
 -- skip and the byte tally stand on it. Assumes nothing.
-use Rattle.std.specs.Prelude.{Option, Some, None}
-use Rattle.std.proofs.Common.{◌≡◌, ℕ, suc, ◌+◌, ◌<◌, ◌≤◌, Bool, true, false, cond, not, eqb, List, [], ◌∷◌, length, get_or, take, drop, replicate, sym, refl, arith, length-drop, drop-cons, eqb-true}
+use Rattle.std.proofs.Common.{◌≡◌, ℕ, suc, ◌+◌, ◌<◌, ◌≤◌, Bool, true, false, cond, not, eqb, List, [], ◌∷◌, length, get_or, take, drop, replicate, Some, None, Option, sym, refl, arith, length-drop, drop-cons, eqb-true}
+use Rattle.std.proofs.lemmas.Bool.{and_parts}
 use Rattle.reader.specs.Place.{is_separator, byte_at, separator_run, first_other}
 use Rattle.reader.specs.Reading.{Reading, may_pass, passed_at, passes_byte, previous, following}
 use Rattle.reader.proofs.passing.Places.{byte_inside, byte_here}
-use Rattle.reader.proofs.Booleans.{and_left, and_right}
 
 pub run_fits : (separator : ℕ) (l : List ℕ) → separator_run separator l ≤ length l
 run_fits separator [] = omega arith
@@ -20,7 +19,7 @@ module _ (m : Reading) (s : List ℕ) (is_first : Bool) (place : ℕ) where
   unfolding may_pass
   one_fits e = go (byte_at s place) refl e where
     go : (o : Option ℕ) → byte_at s place ≡ o → passes_byte m s is_first place o ≡ true → place < length s
-    go None q h = absurd (let z : ◌≡◌ {A = ℕ} 0 1 = cc in omega arith)
+    go None q h = absurd (cc)
     go (Some b) q h = byte_inside s place b q
 
   pub passed_fits : place ≤ length s → place + passed_at m s is_first place ≤ length s
@@ -34,7 +33,7 @@ module _ (m : Reading) (s : List ℕ) (is_first : Bool) (place : ℕ) where
 -- a separator is the separator byte
 pub separator_is : (separator b : ℕ) → is_separator separator b ≡ true → b ≡ separator
 unfolding is_separator
-separator_is separator b e = eqb-true b separator (and_right (not (eqb separator 0)) (eqb b separator) e)
+separator_is separator b e = eqb-true b separator (and_parts (not (eqb separator 0)) (eqb b separator) e).1
 
 run_only : (separator : ℕ) (l : List ℕ) → take (separator_run separator l) l ≡ replicate (separator_run separator l) separator
 run_only separator [] = refl
@@ -47,7 +46,7 @@ run_only separator (b ∷ l) = go (is_separator separator b) refl (run_only sepa
   go false e rest = rw e
 
 pub other_differs : (separator : ℕ) (l : List ℕ) (b : ℕ) → first_other separator l ≡ Some b → is_separator separator b ≡ false
-other_differs separator [] b e = absurd (let z : ◌≡◌ {A = ℕ} 0 1 = cc in omega arith)
+other_differs separator [] b e = absurd (cc)
 other_differs separator (c ∷ l) b e = go (is_separator separator c) refl e (other_differs separator l b) where
   go :
       (t : Bool) → is_separator separator c ≡ t → first_other separator (c ∷ l) ≡ Some b
@@ -67,8 +66,8 @@ module _ (m : Reading) (s : List ℕ) (is_first : Bool) (place : ℕ) where
   unfolding may_pass
   passes_here e = go (byte_at s place) refl e where
     go : (o : Option ℕ) → byte_at s place ≡ o → passes_byte m s is_first place o ≡ true → PassesHere
-    go None q h = absurd (let z : ◌≡◌ {A = ℕ} 0 1 = cc in omega arith)
-    go (Some b) q h = record { byte = b; here = q; separator = and_left _ _ h; rule = and_right (is_separator m.separator b) _ h }
+    go None q h = absurd (cc)
+    go (Some b) q h = record { byte = b; here = q; separator = (and_parts (is_separator m.separator b) _ h).0; rule = (and_parts (is_separator m.separator b) _ h).1 }
 
   pub passes_none : may_pass m s is_first place ≡ false → passed_at m s is_first place ≡ 0
   unfolding passed_at

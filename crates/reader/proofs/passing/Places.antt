@@ -1,12 +1,12 @@
 -- Laws of a place and the bytes around it, by index, as a search over a slice meets them: for every room. Assumes nothing.
-use Rattle.std.specs.Prelude.{Some, None, Option, slice_get}
 use Rattle.std.specs.Borrow.{Bor}
 use Rattle.std.specs.Option.{option_copied}
 use Rattle.std.specs.Slice.{IsItemAt}
-use Rattle.std.proofs.Common.{ap, ◌≡◌, ℕ, zero, suc, ◌+◌, ◌-◌, ◌%◌, ◌^◌, ◌<◌, ◌≤◌, Bool, true, false, cond, not, eqb, ltb, List, [], ◌∷◌, length, get_or, take, drop, sym, refl, ◌∙◌, ⊎_elim, eq-zero-or-pos, add-one, arith, drop_of_length-le, drop-cons, drop-drop, ltb-false, ltb-true, eq-eqb, ne_eqb}
+use Rattle.std.proofs.Common.{◌≡◌, ℕ, zero, suc, ◌+◌, ◌-◌, ◌%◌, ◌^◌, ◌<◌, ◌≤◌, Bool, true, false, cond, not, eqb, List, [], ◌∷◌, length, get_or, take, drop, slice_get, Some, None, Option, sym, refl, ap, ◌∙◌, ⊎_elim, eq-zero-or-pos, add-one, arith, drop_of_length-le, drop-cons, drop-drop, eq-eqb, ne_eqb, length-drop}
 use mathlib.Core.List.{reverse_aux}
+use Rattle.std.proofs.Math.Bool.{and-false}
+use Rattle.std.proofs.lemmas.Option.{slice_get_within}
 use Rattle.reader.specs.Place.{is_separator, byte_at, before, first_other, separator_run}
-use Rattle.reader.proofs.Booleans.{and_false}
 
 -- the byte at an index
 module _ (s : List ℕ) (i : ℕ) where
@@ -28,7 +28,7 @@ is_separator_lem separator b positive e = rw (ne_eqb separator 0 (λ z. omega ar
 
 pub no_separator : (separator b : ℕ) → (b ≡ separator → ⊥) → is_separator separator b ≡ false
 unfolding is_separator
-no_separator separator b differ = rw (ne_eqb b separator differ) (and_false (not (eqb separator 0)))
+no_separator separator b differ = rw (ne_eqb b separator differ) (and-false (not (eqb separator 0)))
 
 pub no_separator_at_all : (separator b : ℕ) → separator ≡ 0 → is_separator separator b ≡ false
 unfolding is_separator
@@ -130,14 +130,6 @@ module _ (separator : ℕ) (s : List ℕ) (i : ℕ) where
   pub run_over : i < length s → 0 < separator → get_or s i 0 ≡ separator → run_end separator s (i + 1) ≡ run_end separator s i
   run_over h positive same = rw (drop-cons s i 0 h, is_separator_lem separator _ positive same, add-one) (omega arith)
 
--- no byte and a byte are not the same
-pub none_there : (b : ℕ) → ◌≡◌ {A = Option ℕ} None (Some b) → ⊥
-none_there b e = let z : ◌≡◌ {A = ℕ} 0 1 = cc in omega arith
-
 -- a byte lies within the buffer
 pub byte_inside : (s : List ℕ) (k b : ℕ) → byte_at s k ≡ Some b → k < length s
-byte_inside s k b e = go (ltb k (length s)) refl where
-  go : (t : Bool) → ltb k (length s) ≡ t → k < length s
-  go true t = ltb-true k (length s) t
-  go false t =
-      absurd (none_there b (sym (no_byte s k (ltb-false k (length s) t)) ∙ e))
+byte_inside s k b e = omega (arith, length-drop k s, slice_get_within (drop k s) 0 b e)

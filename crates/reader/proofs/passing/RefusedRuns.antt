@@ -2,9 +2,9 @@
 -- the loops that take or read such a run at once. Assumes nothing.
 use Rattle.std.proofs.Common.{◌≡◌, ℕ, zero, suc, ◌+◌, ◌<◌, Bool, true, false, cond, not, eqb, List, [], ◌∷◌, length, get_or, drop, refl, ⊎_elim, eq-zero-or-pos, add-one, arith, length-drop, drop-cons, eq-eqb}
 use Rattle.std.proofs.Math.Dec.{eqb-suc-zero}
+use Rattle.std.proofs.lemmas.Bool.{false≢true}
 use Rattle.reader.specs.Place.{is_separator, before, after, first_other, separator_run}
 use Rattle.reader.specs.Reading.{Reading, may_pass, passed_at}
-use Rattle.reader.proofs.Booleans.{contradicts}
 use Rattle.reader.proofs.passing.Places.{byte_here, before_next, run_over}
 
 -- where a list begins with a separator there is a byte
@@ -29,7 +29,7 @@ module _ (separator : ℕ) (s : List ℕ) (at k : ℕ) (e : separator_run separa
   begins = run_begins (is_separator separator (get_or s at 0)) (separator_run separator (drop (suc at) s)) k (rw (drop-cons s at 0 inside) at e)
 
 pub positive : (separator : ℕ) → not (eqb separator 0) ≡ true → 0 < separator
-positive separator e = ⊎_elim (λ z. absurd (contradicts (rw (eq-eqb separator 0 z) at e))) (λ p. p) (eq-zero-or-pos separator)
+positive separator e = ⊎_elim (λ z. absurd (false≢true (rw (eq-eqb separator 0 z) at e))) (λ p. p) (eq-zero-or-pos separator)
 
 pub not_zero : (separator : ℕ) → 0 < separator → not (eqb separator 0) ≡ true
 not_zero zero positive = absurd (omega arith)

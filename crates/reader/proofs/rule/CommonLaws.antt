@@ -1,12 +1,11 @@
 -- What the rules share, each by one test over every case, which antt computes: for passing, the column and demand 3. Assumes nothing.
-use Rattle.std.proofs.Common.{◌≡◌, ℕ, ◌^◌, Bool, true, false, cond, not, ◌&&◌, ◌||◌, T, sym, refl, ◌∙◌, arith}
+use Rattle.std.proofs.Common.{◌≡◌, Bool, true, false, cond, not, ◌&&◌, ◌||◌, T, sym, refl, ◌∙◌}
 use mathlib.Core.Bool.{beq}
 use Rattle.reader.specs.declared.rule.Flags.{Flags}
 use Rattle.reader.specs.declared.rule.Neighbour.{Neighbour}
 use Rattle.reader.specs.declared.rule.Later.{Later}
 use Rattle.reader.specs.Rule.{rule_of, names_of}
-use Rattle.word.specs.Bits.{bit}
-use native.Mathlib.Nat.{zero-div}
+use Rattle.word.proofs.byte_set.Members.{zero_bit}
 use Rattle.reader.specs.Code.RuleWords.{code_of, IsLater}
 use Rattle.reader.proofs.rule.Table.{same, every, every_cell, every_pair, cell_at, pair_at}
 
@@ -62,14 +61,9 @@ all_look_behind = tt
 pub later_looks_behind : (flags : Flags) (p n : Neighbour) → rule_of flags false absent n ≡ rule_of flags false p n
 later_looks_behind flags p n = same _ _ (case_at looks_behind all_look_behind flags false p n)
 
--- a word without a bit has none at any place
-no_bit : (k : ℕ) → bit 0 k ≡ false
-unfolding bit
-no_bit k = rw (zero-div (2 ^ k))
-
 -- where the word of a reader that has counted has no bit, its rule never holds
 pub never_holds : (flags : Flags) (l : Later) → IsLater flags l → l.0 ≡ 0 → (p n : Neighbour) → rule_of flags false p n ≡ false
-never_holds flags l later none p n = sym (later.holds p n) ∙ rw none (no_bit (code_of n))
+never_holds flags l later none p n = sym (later.holds p n) ∙ rw none (zero_bit (code_of n))
 
 -- a neighbour that is a separator, and so no digit
 abbrev pub a_separator : Neighbour
@@ -84,7 +78,7 @@ unfolding every every_cell every_pair every_case rule_of
 all_stop = tt
 
 unless : (a b : Bool) → T (false || a || beq b false) → a ≡ false → b ≡ false
-unless true b t e = absurd (let z : ◌≡◌ {A = ℕ} 0 1 = cc in omega arith)
+unless true b t e = absurd (cc)
 unless false b t e = same b false t
 
 pub single_stops : (flags : Flags) (p : Neighbour) → flags.consecutive ≡ false → rule_of flags false p a_separator ≡ false

@@ -1,13 +1,12 @@
 -- A search over the parts of one width that a slice begins with, from the first on: what it finds is how many widths the run of
 -- separators has. For the two searches of src/search.rt. Assumes nothing.
-use Rattle.std.proofs.Common.{◌≡◌, ℕ, zero, suc, ◌+◌, ◌-◌, ◌*◌, ◌/◌, ◌<◌, ◌≤◌, Bool, true, false, not, eqb, sym, ap, ◌∙◌, List, [], length, get_or, take, drop, replicate, refl, arith, drop-drop, add-one, mul-suc, mul-zero, mul-le-mul_left}
-use Rattle.std.specs.Prelude.{Option, Some, None, MatchOption}
+use Rattle.std.proofs.Common.{◌≡◌, ℕ, zero, suc, ◌+◌, ◌-◌, ◌*◌, ◌/◌, ◌<◌, ◌≤◌, Bool, true, false, not, eqb, List, [], length, get_or, take, drop, replicate, Some, None, Option, MatchOption, sym, refl, ap, ◌∙◌, mul-le-mul_left, mul-zero, mul-suc, add-one, arith, drop-drop, one-mul}
 use Rattle.std.specs.Option.{unwrap_or}
 use Rattle.std.specs.List.{AllWithin, HoldsAt}
 use Rattle.std.specs.Simd.{first_chunks}
 use Rattle.reader.specs.Place.{separator_run}
 use Rattle.std.specs.Cmp.Lexicographic.{pointwise, bytes_decides}
-use Rattle.reader.proofs.Booleans.{contradicts}
+use Rattle.std.proofs.lemmas.Bool.{false≢true}
 use Rattle.reader.proofs.search.RunSteps.{Stepping, stepping_starts, stepping_on, stops_on_other, stops_near_end, one_separator, one_other}
 
 module _ (separator : ℕ) (s : List ℕ) (n : ℕ) where
@@ -48,13 +47,10 @@ pub same_told : (l m : List ℕ) → not (pointwise eqb l m) ≡ false → l ≡
 same_told l m e = (bytes_decides l m).0 (go (pointwise eqb l m) e) where
   go : (b : Bool) → not b ≡ false → b ≡ true
   go true e = refl
-  go false e = absurd (contradicts (sym e))
+  go false e = absurd (false≢true (sym e))
 
 pub other_told : (l m : List ℕ) → not (pointwise eqb l m) ≡ true → l ≡ m → ⊥
-other_told l m e same = contradicts (ap not (sym ((bytes_decides l m).1 same)) ∙ e)
-
-one_time : (j : ℕ) → 1 * j ≡ j
-one_time j = omega arith
+other_told l m e same = false≢true (ap not (sym ((bytes_decides l m).1 same)) ∙ e)
 
 -- What a search over the chunks of a slice tells, and one over its bytes, is told of its parts.
 module _ (separator : ℕ) (s : List ℕ) where
@@ -77,9 +73,9 @@ module _ (separator : ℕ) (s : List ℕ) where
       (λ i. (i < length s) × HoldsAt (λ x. x ≡ separator → ⊥) s i × AllWithin (λ x. x ≡ separator) s 0 i)
       → MatchOption found ((j : ℕ) → j < length s → Same separator s 1 j)
       (λ i. (i < length s) × (Same separator s 1 i → ⊥) × ((j : ℕ) → j < i → Same separator s 1 j))
-  bytes_told None all = λ j h. rw (one_time j) (one_separator separator s j h (all j 0 (omega arith) h))
+  bytes_told None all = λ j h. rw (one-mul j) (one_separator separator s j h (all j 0 (omega arith) h))
   bytes_told (Some i) told = (
     told.0,
-    rw (one_time i) (one_other separator s i told.0 (told.1 0)),
-    λ j h. rw (one_time j) (one_separator separator s j (omega (arith, told.0)) (told.2 j 0 (omega arith) h)),
+    rw (one-mul i) (one_other separator s i told.0 (told.1 0)),
+    λ j h. rw (one-mul j) (one_separator separator s j (omega (arith, told.0)) (told.2 j 0 (omega arith) h)),
   )

@@ -10,7 +10,7 @@ use Rattle.reader.proofs.passing.Passed.{run_fits, separator_is}
 run_past : (separator n : ℕ) (l : List ℕ) → 0 < separator → take n l ≡ replicate n separator
     → separator_run separator l ≡ n + separator_run separator (drop n l)
 run_past separator zero l positive e = sym (zero-add (separator_run separator l))
-run_past separator (suc n) [] positive e = let z : ◌≡◌ {A = ℕ} 0 1 = cc in absurd (omega arith)
+run_past separator (suc n) [] positive e = absurd (cc)
 run_past separator (suc n) (b ∷ l) positive e =
     let first : b ≡ separator = cc in
     let rest : take n l ≡ replicate n separator = cc in

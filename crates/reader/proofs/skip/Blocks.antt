@@ -1,7 +1,7 @@
 -- The block take: what it answers where it is refused and where it is not, and which part of the buffer its block is. Assumes nothing.
-use Rattle.std.specs.Prelude.{Option, Some, None, Result}
-use Rattle.std.proofs.Common.{◌≡◌, ℕ, ◌+◌, ◌-◌, ◌≤◌, min, Bool, true, false, eqb, List, [], length, take, drop, sym, refl, ap, ◌∙◌, arith, eqb-true}
+use Rattle.std.proofs.Common.{◌≡◌, ℕ, ◌+◌, ◌-◌, ◌≤◌, min, Bool, true, false, eqb, List, [], length, take, drop, Some, None, Option, Result, sym, refl, ap, ◌∙◌, arith, eqb-true}
 use Rattle.std.specs.Borrow.{Bor}
+use Rattle.std.proofs.lemmas.Option.{none-some}
 use Rattle.reader.specs.declared.state.Reader.{Reader}
 use Rattle.reader.specs.declared.state.State.{State}
 use Rattle.reader.specs.declared.state.Refusal.{Refusal}
@@ -11,7 +11,6 @@ use Rattle.reader.specs.Reading.{Reading, reading_for, has_any_flag}
 use Rattle.reader.specs.Answer.{number_of, found_in, BlockOutcome, block_outcome_of}
 use Rattle.reader.specs.Block.{block_refusal, refused_block, block_from, take_n_of, take_n_part, part_start, BlockPart}
 use Rattle.reader.proofs.state.Refusals.{block_within, refusal_tells}
-use Rattle.reader.proofs.passing.Places.{none_there}
 
 module _ (m : Reading) (s : List ℕ) (st : State) (r : Reader) (n : ℕ) where
   pub block_admitted : block_refusal s st r ≡ 0 → block_from m.flags s st n ≡ take_n_of m s st r n
@@ -34,8 +33,8 @@ module _ (m : Reading) (s : List ℕ) (st : State) (r : Reader) (n : ℕ) where
         let same : min n (length s - st.cursor) ≡ k = cc (rw (t, u) at h) in
         let inside = block_within s st r (eqb-true (block_refusal s st r) 0 t) in
         rw (t, u) (rw same, omega (arith, inside, same))
-    go true true t u h = absurd (none_there k (rw (t, u) at h))
-    go false u t _ h = absurd (none_there k (rw t at h))
+    go true true t u h = absurd (none-some k (rw (t, u) at h))
+    go false u t _ h = absurd (none-some k (rw t at h))
 
   -- of an answer: its block lies between the two cursors, and is the part of the definition
   module _ (a : Answer (Result (Option ℕ) Refusal)) (e : block_outcome_of a ≡ take_n_of m s st r n) where

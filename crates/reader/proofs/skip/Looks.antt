@@ -1,7 +1,6 @@
 -- A look that found a byte or the end is the peek that passed as many separators as the cursor moved, and what each call that begins
 -- with a look answers for what was seen: for peeks, takes and conditional reads. Assumes nothing.
-use Rattle.std.specs.Prelude.{Option, Some, None, Ok, IfSome}
-use Rattle.std.proofs.Common.{◌≡◌, ℕ, ◌+◌, ◌-◌, ◌<◌, ◌≤◌, Bool, true, false, List, length, sym, arith}
+use Rattle.std.proofs.Common.{◌≡◌, ℕ, ◌+◌, ◌-◌, ◌<◌, ◌≤◌, Bool, true, false, List, length, IfSome, Some, None, Ok, Option, sym, arith}
 use Rattle.reader.specs.declared.state.State.{State}
 use Rattle.reader.specs.declared.skip.Sight.{Sight}
 use Rattle.reader.specs.Code.Looks.{look_outcome}

@@ -1,10 +1,10 @@
 -- Takes come to the end of a run that is refused one by one, so the loop may go there at once. For the proof of `take_run`. Assumes
 -- nothing.
 use Rattle.std.proofs.Common.{◌≡◌, ℕ, zero, suc, ◌+◌, ◌-◌, ◌<◌, Bool, true, false, cond, not, ◌&&◌, ◌||◌, eqb, List, length, get_or, drop, sym, refl, ◌∙◌, ⊎_elim, eq-zero-or-pos, add-one, arith, drop-cons, eq-eqb, ne_eqb, eqb-true}
+use Rattle.std.proofs.lemmas.Bool.{and_parts, false≢true}
 use Rattle.reader.specs.Place.{separator_run}
 use Rattle.reader.specs.Reading.{Reading, may_pass, passed_at}
 use Rattle.reader.specs.Code.TakeSums.{count_behind, lands_at}
-use Rattle.reader.proofs.Booleans.{and_left, and_right, contradicts}
 use Rattle.reader.proofs.passing.Places.{is_separator_lem}
 use Rattle.reader.proofs.passing.RefusedRuns.{inside, begins, positive, refused-first, refused_next, refused_stays}
 use Rattle.reader.proofs.passing.Passed.{separator_is}
@@ -17,7 +17,7 @@ first_stays false count above = refl
 
 above_stays : (t : Bool) (count : ℕ) → (t ≡ true → 0 < count) → t ≡ true → 0 < cond t (count + 1) count
 above_stays true count above e = omega arith
-above_stays false count above e = absurd (contradicts e)
+above_stays false count above e = absurd (false≢true e)
 
 one_more : (t : Bool) (count k : ℕ) → cond t (cond t (count + 1) count + suc k) (cond t (count + 1) count) ≡ cond t (count + suc (suc k)) count
 one_more true count k = omega arith
@@ -66,8 +66,8 @@ count_of false count taken = rw (eq-eqb count count refl)
 
 grows : (t : Bool) (count : ℕ) → (eqb (cond t (count + 1) count) count || not (eqb count 0)) ≡ true → t ≡ true → 0 < count
 grows true count h e =
-    ⊎_elim (λ z. absurd (contradicts (rw (z, ne_eqb (0 + 1) 0 (λ y. omega arith)) at h))) (λ p. p) (eq-zero-or-pos count)
-grows false count h e = absurd (contradicts e)
+    ⊎_elim (λ z. absurd (false≢true (rw (z, ne_eqb (0 + 1) 0 (λ y. omega arith)) at h))) (λ p. p) (eq-zero-or-pos count)
+grows false count h e = absurd (false≢true e)
 
 -- Where takes come to behind a byte that is taken, from a separator: where it is the separator itself, since that is refused, and the
 -- consecutive flag is set, the rest of its run is taken too.
@@ -93,13 +93,13 @@ module _
     all_taken_lem : refused_here ≡ true → 0 < m.separator → m.flags.consecutive ≡ true
         → Summing m s counts start counted (place + separator_run m.separator (drop place s)) (cond (eqb more count) count (count + separator_run m.separator (drop place s))) (passed + (place - at))
     all_taken_lem t p consecutive =
-        let none : place - at ≡ 0 = eqb-true (place - at) 0 (and_left (eqb (place - at) 0) (eqb more count || not (eqb count 0)) t) in
+        let none : place - at ≡ 0 = eqb-true (place - at) 0 (and_parts (eqb (place - at) 0) (eqb more count || not (eqb count 0)) t).0 in
         let stays : place ≡ at = omega (arith, none, lands) in
         let refused : passed_at m s (eqb count 0) at ≡ 0 = omega (arith, none, lands) in
         let nothing : passed + (place - at) ≡ passed = omega (arith, none) in
         let byte : more ≡ count_behind m counts m.separator count = rw (stays, equal) at behind in
         let e : separator_run m.separator (drop at s) ≡ suc (separator_run m.separator (drop (suc at) s)) = rw (drop-cons s at 0 (omega (arith, stays, h)), is_separator_lem m.separator _ p equal) in
-        let above = grows (counts && m.digit m.separator) count (rw byte at (and_right (eqb (place - at) 0) (eqb more count || not (eqb count 0)) t)) in
+        let above = grows (counts && m.digit m.separator) count (rw byte at (and_parts (eqb (place - at) 0) (eqb more count || not (eqb count 0)) t).1) in
         rw (nothing, stays, byte, count_of (counts && m.digit m.separator) count (separator_run m.separator (drop at s)), e)
         (run_taken m s counts start counted passed consecutive at _ count above e refused here)
 
@@ -117,4 +117,4 @@ module _
       go true false e k l = one l
       go true true e k l =
           let run : to - place ≡ separator_run m.separator (drop place s) = omega arith in
-          rw (run, l) (all_taken_lem (and_left refused_here (not (eqb m.separator 0)) e) (positive m.separator (and_right refused_here (not (eqb m.separator 0)) e)) k)
+          rw (run, l) (all_taken_lem (and_parts refused_here (not (eqb m.separator 0)) e).0 (positive m.separator (and_parts refused_here (not (eqb m.separator 0)) e).1) k)

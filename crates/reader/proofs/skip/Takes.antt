@@ -1,7 +1,7 @@
 -- Where a take leaves the cursor, takes from a refused state, and that takes to the end have come to their end:
 -- for this room and the reads of a zero skip. Assumes nothing.
-use Rattle.std.specs.Prelude.{Option, Some, None}
-use Rattle.std.proofs.Common.{◌≡◌, ℕ, ◌+◌, ◌<◌, ◌≤◌, Bool, true, false, cond, ◌&&◌, eqb, List, length, sym, refl, ap, ◌∙◌, eqb-true}
+use Rattle.std.proofs.Common.{◌≡◌, ℕ, ◌+◌, ◌<◌, ◌≤◌, Bool, true, false, cond, ◌&&◌, eqb, List, length, Some, None, Option, sym, refl, ap, ◌∙◌, eqb-true}
+use Rattle.std.proofs.lemmas.Option.{none-some}
 use Rattle.reader.specs.declared.state.Reader.{Reader}
 use Rattle.reader.specs.declared.state.State.{State}
 use Rattle.reader.specs.declared.state.Refusal.{Refusal}
@@ -9,7 +9,7 @@ use Rattle.reader.specs.Reading.{Reading, has_any_flag}
 use Rattle.reader.specs.State.{count_sum, moved_to, counted_by}
 use Rattle.reader.specs.Answer.{number_of, Outcome}
 use Rattle.reader.specs.Calls.{refusal_with, refusal_of, refused, peeked, peek_of, taken_from, take_byte, next_of, next_all_of}
-use Rattle.reader.proofs.passing.Places.{none_there, byte_inside}
+use Rattle.reader.proofs.passing.Places.{byte_inside}
 use Rattle.reader.specs.Repeat.{repeated}
 use Rattle.reader.proofs.state.Refusals.{within, peek_refused}
 use Rattle.reader.proofs.Repeats.{repeated-stops, TakesOne, repeated_ends}
@@ -36,7 +36,7 @@ module _ (m : Reading) (s : List ℕ) (st : State) (r : Reader) where
     go true t h =
         let clear = eqb-true (refusal_of m s st r) 0 t in
         rw t (record { moves = refl; inside = byte_inside s _ b (rw t at h); sums = (within m.flags s st r clear).1 })
-    go false t h = absurd (none_there b (rw t at h))
+    go false t h = absurd (none-some b (rw t at h))
 
   -- a take with a byte took one
   pub next_takes_one : (b : ℕ) → (next_of m s st r).byte ≡ Some b → TakesOne s st (next_of m s st r)
@@ -44,7 +44,7 @@ module _ (m : Reading) (s : List ℕ) (st : State) (r : Reader) where
   next_takes_one b e = go (peek_of m s st r).byte refl e where
     go : (o : Option ℕ) → (peek_of m s st r).byte ≡ o → (take_byte m r (peek_of m s st r) o).byte ≡ Some b
         → TakesOne s st (take_byte m r (peek_of m s st r) o)
-    go None q h = absurd (none_there b (sym q ∙ h))
+    go None q h = absurd (none-some b (sym q ∙ h))
     go (Some c) q h =
         let p = peek_byte c q in
         record { moves = taken_moves m r c (peek_of m s st r).state ∙ ap (λ (n : ℕ). n + 1) p.moves; inside = p.inside; one = refl }

@@ -1,6 +1,5 @@
 -- Who is named, from what `Reader::try_from`, or a test over it, found: for export and script, which are given a byte. Assumes nothing.
-use Rattle.std.specs.Prelude.{Option, Some, None, Ok, Err, ok_or}
-use Rattle.std.proofs.Common.{◌≡◌, arith}
+use Rattle.std.proofs.Common.{◌≡◌, Some, None, Ok, Err, Option, ok_or, arith}
 use Rattle.reader.specs.declared.state.Reader.{Reader}
 use Rattle.reader.specs.declared.state.UnknownReader.{UnknownReader}
 

@@ -48,6 +48,13 @@ counts_one st Fraction at count = refl
 counts_one st Exponent at count = refl
 counts_one st Special at count = refl
 
+pub raised : (st : State) (r : Reader) → with_count st r (count_of st r + 1) ≡ counted_by st r
+unfolding count_of with_count counted_by
+raised st Integer = refl
+raised st Fraction = refl
+raised st Exponent = refl
+raised st Special = refl
+
 -- a counted reader's state tells the count
 pub counted_tells : (st : State) (r : Reader) (at count : ℕ) → is_counted r ≡ true → count_of (state_at st r at count) r ≡ count
 unfolding with_count count_of

@@ -2,23 +2,20 @@
 use mathlib.Core.Path.{◌≡◌, refl}
 use mathlib.Core.Bool.{Bool, true, false}
 use mathlib.Core.List.{List, [], ◌∷◌, ◌++◌, append-nil}
-use Prim.Native.Nat.{ℕ, zero, suc, ◌+◌, ◌-◌, ◌≤◌, ◌<◌, min}
+use Prim.Native.Nat.{ℕ, zero, suc, ◌+◌, ◌≤◌, ◌<◌, min}
 use native.Mathlib.Omega.{arith}
 use borrow.Author.Tests.{ltb-true, ltb-false, le-ltb}
+use Rattle.std.proofs.lemmas.List.{drop_min}
 use Rattle.std.specs.Prelude.{Result, Ok, Err}
 use lib.Dec.{ltb}
-use lib.ListN.{length, take, drop, length-append, length-drop}
-use lib.Seq.{take_all, take-append-le, drop-append-le, drop-length, drop-nil}
+use lib.ListN.{length, drop, length-append, length-drop}
+use lib.Seq.{take-append-le, drop-append-le}
 use Rattle.script.specs.declared.record.Kind.{Kind}
 use Rattle.script.specs.declared.record.Kind.TheVariants as kind
 use Rattle.script.specs.declared.refusal.Refusal.{Refusal}
 use Rattle.script.specs.Record.{kind_of, body_length, size_behind, number_at, whole_record, record_behind, record_at}
 use Rattle.script.specs.Run.{Run}
 use Rattle.script.specs.Script.{response_at, output_from}
-
--- the part of an input from a place to its end is all that follows
-pub to_the_end : (input : List ℕ) (from : ℕ) → take (length input - from) (drop from input) ≡ drop from input
-to_the_end input from = take_all (length input - from) (drop from input) (simp length-drop (omega arith))
 
 number_append : (body rest : List ℕ) (place size : ℕ) → place + size ≤ length body → number_at (body ++ rest) place size ≡ number_at body place size
 number_append body rest place size inside =
@@ -64,25 +61,9 @@ behind_body [] rest (suc k) run ends = rw (ends (omega arith))
 behind_body (b ∷ body) rest zero run ends = refl
 behind_body (b ∷ body) rest (suc k) run ends = behind_body body rest k run (λ less. ends (omega (arith, less)))
 
-pub drop_all : (l : List ℕ) (k : ℕ) → length l ≤ k → drop k l ≡ []
-drop_all [] k past = drop-nil k
-drop_all (b ∷ l) zero past = absurd (omega (arith, past))
-drop_all (b ∷ l) (suc k) past = drop_all l k (omega (arith, past))
-
-drop_least : (l : List ℕ) (k : ℕ) → drop (min (length l) k) l ≡ drop k l
-drop_least l k = go (ltb (length l) k) refl where
-  go : (b : Bool) → ltb (length l) k ≡ b → drop (min (length l) k) l ≡ drop k l
-  go true e =
-      let less = ltb-true (length l) k e in
-      let whole : min (length l) k ≡ length l = omega (arith, less) in
-      rw (whole, drop-length l, drop_all l k (omega (arith, less)))
-  go false e =
-      let whole : min (length l) k ≡ k = omega (arith, ltb-false (length l) k e) in
-      rw whole
-
 -- one record, and what follows it
 pub turn : (n : ℕ) (body rest : List ℕ) (run : Run) → (length body < size_behind (kind_of n) → rest ≡ [])
     → output_from (n ∷ (body ++ rest)) 0 run
-    ≡ (response_at run n body).line ++ output_from (drop (min (length body) (size_behind (kind_of n))) body ++ rest) 0 (response_at run n body).run
+    ≡ (response_at run n body).line ++ output_from (drop (min (size_behind (kind_of n)) (length body)) body ++ rest) 0 (response_at run n body).run
 turn n body rest run ends =
-    rw (response_append run n body rest ends, behind_body body rest (size_behind (kind_of n)) (response_at run n body).run ends, drop_least body (size_behind (kind_of n)))
+    rw (response_append run n body rest ends, behind_body body rest (size_behind (kind_of n)) (response_at run n body).run ends, drop_min (size_behind (kind_of n)) body)

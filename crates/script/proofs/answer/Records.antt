@@ -8,6 +8,7 @@ use native.Mathlib.Omega.{arith}
 use native.Mathlib.Numerals.{add-one}
 use borrow.Author.Tests.{leb-true, le-leb, ltb-true, ltb-false}
 use lib.Dec.{ltb, leb}
+use Rattle.std.proofs.lemmas.Bool.{false≢true}
 use Rattle.std.specs.Prelude.{Result}
 use lib.ListN.{length, take, drop, get_or, length-drop}
 use lib.Seq.{drop-length, drop-cons, drop-drop}
@@ -24,9 +25,6 @@ use Rattle.script.specs.Run.{Run, gathering, stopped, run_in, is_stopped, respon
 use Rattle.script.specs.Script.{response_at, output_from, output_of, is_due, next_is_due, GoesAsFar, Answers}
 use Rattle.script.proofs.line.Writes.{wrote_inside}
 use Rattle.script.proofs.answer.Prefixes.{turn}
-
-pub false_no : false ≡ true → ⊥
-false_no e = let no : ◌≡◌ {A = ℕ} 0 1 = cc in omega arith
 
 -- What holds whenever the loop's test is reached: of the input, `left` is still to be answered.
 pub record Answering (text₀ : List ℕ) (begun : Stage) (input : List ℕ) (ended : Bool) (out₀ text out : List ℕ) (stage : Stage) (left : List ℕ) (end : ℕ)
@@ -54,7 +52,7 @@ module _ {text₀ : List ℕ} {begun : Stage} {input : List ℕ} {ended : Bool} 
       go true e = ends e
       go false e = absurd (omega (arith, due e, less))
 
-    pub answering_goes_on : {text' out' : List ℕ} {answer : Response'} {k : ℕ} → k ≡ min (length body) (size_behind (kind_of n))
+    pub answering_goes_on : {text' out' : List ℕ} {answer : Response'} {k : ℕ} → k ≡ min (size_behind (kind_of n)) (length body)
         → Responds (response_at (run_in text stage) n body) text' out end out' answer
         → Answering text₀ begun input ended out₀ text' out' answer.stage (drop k body) answer.end
     answering_goes_on {k = k} ek r =
@@ -83,17 +81,17 @@ module _ (stage : Stage) (room : ℕ) (ended : Bool) (size there : ℕ) (is : Bo
     due_room = go (is_stopped stage) (leb longest_line room) refl refl where
       go : (s r : Bool) → is_stopped stage ≡ s → leb longest_line room ≡ r → longest_line ≤ room
       go s true e f = leb-true longest_line room f
-      go true false e f = let no : false ≡ true = rw e at due in absurd (false_no no)
-      go false false e f = let no : false ≡ true = rw (e, f) at due in absurd (false_no no)
+      go true false e f = let no : false ≡ true = rw e at due in absurd (false≢true no)
+      go false false e f = let no : false ≡ true = rw (e, f) at due in absurd (false≢true no)
 
     pub due_whole : ended ≡ false → size ≤ there
     unfolding is_due
     due_whole more = go (is_stopped stage) (leb longest_line room) (leb size there) refl refl refl where
       go : (s r w : Bool) → is_stopped stage ≡ s → leb longest_line room ≡ r → leb size there ≡ w → size ≤ there
       go s r true e f g = leb-true size there g
-      go true r false e f g = let no : false ≡ true = rw e at due in absurd (false_no no)
-      go false false false e f g = let no : false ≡ true = rw (e, f) at due in absurd (false_no no)
-      go false true false e f g = let no : false ≡ true = rw (e, f, more, g) at due in absurd (false_no no)
+      go true r false e f g = let no : false ≡ true = rw e at due in absurd (false≢true no)
+      go false false false e f g = let no : false ≡ true = rw (e, f) at due in absurd (false≢true no)
+      go false true false e f g = let no : false ≡ true = rw (e, f, more, g) at due in absurd (false≢true no)
 
 -- where the loop ends with the input nothing is due, and where it ends before, the next record is not
 pub nothing_due : (left : List ℕ) (stage : Stage) (room : ℕ) (ended : Bool) → length left ≡ 0 → next_is_due stage room ended left ≡ false
@@ -120,8 +118,8 @@ stopped_prints_nothing (b ∷ rest) (suc skipped) = stopped_prints_nothing rest 
 stopped_prints_nothing (b ∷ rest) zero = stopped_prints_nothing rest (size_behind (kind_of b))
 
 pub is_stopped_run : (text : List ℕ) (at : Stage) → is_stopped at ≡ true → run_in text at ≡ stopped
-is_stopped_run text (stage.Gathering n) e = absurd (false_no e)
-is_stopped_run text (stage.Opened n st) e = absurd (false_no e)
+is_stopped_run text (stage.Gathering n) e = absurd (false≢true e)
+is_stopped_run text (stage.Opened n st) e = absurd (false≢true e)
 is_stopped_run text stage.Stopped e = refl
 
 none_after : (input : List ℕ) (k : ℕ) (run : Run) → k ≡ length input → output_from (drop k input ++ []) 0 run ≡ []
@@ -129,7 +127,7 @@ none_after input k run e = rw (e, drop-length input)
 
 stops_else : (s w : Bool) → (not s && (true && (true || w))) ≡ false → s ≡ true
 stops_else true w e = refl
-stops_else false w e = absurd (false_no (sym e))
+stops_else false w e = absurd (false≢true (sym e))
 
 due_at : (stage : Stage) (room : ℕ) (ended : Bool) (input : List ℕ) (used : ℕ) → used < length input → next_is_due stage room ended (drop used input) ≡ false
     → is_due stage room ended (size_behind (kind_of (get_or input used 0))) (length (drop (used + 1) input)) ≡ false

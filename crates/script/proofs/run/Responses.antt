@@ -1,13 +1,10 @@
 -- Responses to one record, from what the code wrote and how far it says the run is: for the functions that respond. Assumes nothing.
 use mathlib.Core.Path.{◌≡◌, refl}
-use mathlib.Core.Bool.{Bool, true, false}
 use mathlib.Core.List.{List}
 use Prim.Native.Nat.{ℕ, ◌-◌, min}
 use native.Mathlib.Omega.{arith}
-use borrow.Author.Tests.{ltb-true, ltb-false}
-use lib.Dec.{ltb}
+use Rattle.std.proofs.lemmas.List.{take_min}
 use lib.ListN.{length, take}
-use lib.Seq.{take-length, take_all}
 use Rattle.reader.specs.declared.state.Reader.{Reader}
 use Rattle.reader.specs.declared.state.State.{State}
 use Rattle.reader.specs.Reading.{reading_on}
@@ -33,15 +30,6 @@ pub stopped_by : {response : Response} (refused : Refusal) {buffer before middle
     → (middle ≡ before) × (response ≡ stops refused) → Responds (stops refused) buffer middle at after answer → Responds response buffer before at after answer
 stopped_by refused e r = rw (e.1, ← e.0) r
 
-take_least : (l : List ℕ) (n : ℕ) → take (min n (length l)) l ≡ take n l
-take_least l n = go (ltb n (length l)) refl where
-  go : (b : Bool) → ltb n (length l) ≡ b → take (min n (length l)) l ≡ take n l
-  go true e = let some : min n (length l) ≡ n = omega (arith, ltb-true n (length l) e) in rw some
-  go false e =
-      let past = ltb-false n (length l) e in
-      let whole : min n (length l) ≡ length l = omega (arith, past) in
-      rw (whole, take-length l, take_all n l (omega (arith, past)))
-
 -- the part of a buffer from 0 to k has k - 0 bytes
 module _ (buffer : List ℕ) (k n : ℕ) (st : State) (r : Reader) (asked : Call) (reply : Reply)
     (within : k ≡ min n (length buffer))
@@ -53,5 +41,5 @@ module _ (buffer : List ℕ) (k n : ℕ) (st : State) (r : Reader) (asked : Call
     unfolding call_response
     call_responds w answered =
         let whole_part : k - 0 ≡ k = omega arith in
-        let reply_told : reply ≡ reply_of (answer_to reading_on (take n buffer) st (call_by asked r)) = rw (whole_part, within, take_least buffer n) at replied in
+        let reply_told : reply ≡ reply_of (answer_to reading_on (take n buffer) st (call_by asked r)) = rw (whole_part, within, take_min n buffer) at replied in
         responds answered (wrote_as w (rw reply_told) refl) (rw reply_told)

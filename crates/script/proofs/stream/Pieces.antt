@@ -6,9 +6,10 @@ use mathlib.Core.List.{List, [], ◌∷◌, ◌++◌}
 use Prim.Native.Nat.{ℕ, zero, suc, ◌+◌, ◌-◌, ◌≤◌, ◌<◌}
 use native.Mathlib.Omega.{arith}
 use lib.ListN.{length, take, drop, length-take}
-use lib.Seq.{take-nil}
 use borrow.Author.Tests.{ne_eqb, ltb-true, ltb-false, leb-false, le-leb}
 use lib.Dec.{leb, ltb}
+use Rattle.std.proofs.lemmas.Bool.{false≢true}
+use Rattle.std.proofs.lemmas.List.{drop-take}
 use Rattle.std.specs.Prelude.{Option, Some, None, Result, Ok, Err, IfOk}
 use Rattle.script.specs.declared.record.Kind.{Kind}
 use Rattle.script.specs.declared.record.Kind.TheVariants as kind
@@ -25,15 +26,7 @@ use Rattle.script.specs.Record.{kind_of, body_length, size_behind, longest_body}
 use Rattle.script.specs.Run.{Run, run_in, is_stopped}
 use Rattle.script.specs.Script.{is_due, next_is_due, GoesAsFar, Answers}
 use Rattle.script.specs.Stream.{next_of, Leads, Turns, arrival_of, RoomToRead}
-use Rattle.script.proofs.answer.Records.{false_no, stopped_prints_nothing, is_stopped_run}
-
-drop_of_take : (l : List ℕ) (used filled : ℕ) → drop used (take filled l) ≡ take (filled - used) (drop used l)
-drop_of_take l zero filled = let whole : filled - 0 ≡ filled = omega arith in rw whole
-drop_of_take [] (suc used) filled = rw (take-nil filled, take-nil (filled - suc used))
-drop_of_take (b ∷ l) (suc used) zero = let none : 0 - suc used ≡ 0 = omega arith in rw none
-drop_of_take (b ∷ l) (suc used) (suc filled) =
-    let same : suc filled - suc used ≡ filled - used = omega arith in
-    rw same (drop_of_take l used filled)
+use Rattle.script.proofs.answer.Records.{stopped_prints_nothing, is_stopped_run}
 
 -- what `next_of` answers says what the contract of a turn wants, where nothing that is due is left
 still_not_due : (stage : Stage) (room : ℕ) (kept : List ℕ) → is_stopped stage ≡ false → leb longest_line room ≡ true → next_is_due stage room false kept ≡ false
@@ -45,7 +38,7 @@ still_not_due stage room (k ∷ body) e f due = rw e (rw (e, f) at due)
 none_left : (stage : Stage) (room : ℕ) (kept : List ℕ) → is_stopped stage ≡ false → leb longest_line room ≡ true → next_is_due stage room true kept ≡ false → kept ≡ []
 unfolding is_due
 none_left stage room [] e f due = refl
-none_left stage room (k ∷ body) e f due = let no : true ≡ false = rw (e, f) at due in absurd (false_no (sym no))
+none_left stage room (k ∷ body) e f due = let no : true ≡ false = rw (e, f) at due in absurd (false≢true (sym no))
 
 leads_by : (stage : Stage) (room : ℕ) (ended : Bool) (kept text : List ℕ) (s r : Bool) → is_stopped stage ≡ s → ltb room longest_line ≡ r
     → next_is_due stage room ended kept ≡ false
@@ -101,7 +94,8 @@ pub turned : (text buffer : List ℕ) (begun : Stage) (filled : ℕ) (ended : Bo
     → Turns text buffer (record { stage = begun; filled = filled; ended = ended }) text' buffer' out (record { stage = p.stage; kept = kept; end = p.end; next = next })
 turned text buffer begun filled ended text' buffer' out p kept next inside answers far chosen count size moved =
     let whole : filled - 0 ≡ filled = omega arith in
-    let left : take kept buffer' ≡ drop p.used (take filled buffer) = rw (moved, count, ← drop_of_take buffer p.used filled) in
+    let filled_so : filled ≡ p.used + kept = omega (arith, inside, count, simp length-take at answers.read) in
+    let left : take kept buffer' ≡ drop p.used (take filled buffer) = moved ∙ rw (filled_so, drop-take p.used kept buffer) in
     let a : Answers text begun (take filled buffer) ended text' out p = rw whole at answers in
     let due : next_is_due p.stage (length out - p.end) ended (drop p.used (take filled buffer)) ≡ false = rw whole at far in
     record {

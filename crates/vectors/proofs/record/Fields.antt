@@ -2,24 +2,22 @@
 -- Assumes nothing.
 use Rattle.std.proofs.Common.{◌≡◌, ℕ, zero, suc, ◌+◌, ◌-◌, ◌≤◌, ◌<◌, List, [], ◌∷◌, ◌==◌, length, take, drop, get_or, refl, ap, ◌∙◌, add-one, arith, drop-cons, length-drop, sym, Option, None, Some}
 use lib.ListN.{drop_of_length-le}
-use lib.Seq.{drop-drop, take_all}
+use lib.Seq.{drop-drop}
+use Rattle.std.proofs.lemmas.List.{take_rest}
 use Rattle.std.specs.Prelude.{cond, not, nat_lt}
 use Rattle.std.specs.Option.{unwrap_or}
 use Rattle.std.specs.List.{position, position_or_len}
 use Rattle.std.proofs.lemmas.List.Sums.{prefix_len-le-length}
-use borrow.Author.Tests.{eq-eqb, ne_eqb, lt-ltb, le-ltb}
+use borrow.Author.Tests.{ne_eqb, lt-ltb, le-ltb}
 use Rattle.std.proofs.lemmas.List.Recursion.{is_position_or_len}
 use Rattle.vectors.specs.declared.record.Record.{Record}
 use Rattle.vectors.specs.declared.record.Kind.{Kind}
 use Rattle.vectors.specs.Hex.{read_hex}
 use Rattle.vectors.specs.Line.{kind_of, of_kind, if_kind, if_record, added, with_field, until_space, with_fields, record_of}
 
-one_more_is : (n : ℕ) → 1 + n ≡ suc n
-one_more_is n = omega arith
-
 until_space_is : (l : List ℕ) → until_space l ≡ position_or_len (λ c. c == 32) l
 unfolding until_space
-until_space_is l = is_position_or_len until_space (λ c. c == 32) refl (λ c rest. rw (← one_more_is (until_space rest))) l
+until_space_is l = is_position_or_len until_space (λ c. c == 32) refl (λ c rest. ap (cond (c == 32) 0) (omega arith)) l
 
 or_end : (n end : ℕ) → n ≤ end → unwrap_or (cond (nat_lt n end) (Some n) None) end ≡ n
 or_end n end within = grind arith
@@ -37,22 +35,20 @@ module _ (r : Record) (field : List ℕ) where
   no_room full = rw (le-ltb r.count 8 full)
 
   module _ (room : r.count < 8) where
-    pub no_field : length field ≤ 0 → None ≡ with_field r field
+    pub no_field : length field ≡ 0 → None ≡ with_field r field
     unfolding with_field
-    no_field blank = rw (lt-ltb r.count 8 room, le-ltb 0 (length field) blank)
+    no_field blank = rw (lt-ltb r.count 8 room, blank)
 
-    module _ (filled : 0 < length field) where
-      pub no_space : (get_or field 0 0 ≡ 32 → ⊥) → None ≡ with_field r field
+    module _ (first : ℕ) (digits : List ℕ) (is : field ≡ first ∷ digits) where
+      pub no_space : (first ≡ 32 → ⊥) → None ≡ with_field r field
       unfolding with_field
-      no_space other = rw (lt-ltb r.count 8 room, lt-ltb 0 (length field) filled, ne_eqb (get_or field 0 0) 32 other)
+      no_space other = rw (is, lt-ltb r.count 8 room, lt-ltb 0 (suc (length digits)) (omega arith), ne_eqb first 32 other)
 
-      pub with_number : (n : Option ℕ) → get_or field 0 0 ≡ 32 → n ≡ read_hex (take (length field - 1) (drop 1 field))
-          → added r (length field - 1) n ≡ with_field r field
+      pub with_number : (n : Option ℕ) → first ≡ 32 → n ≡ read_hex digits → added r (length digits) n ≡ with_field r field
       unfolding with_field
-      with_number n space is =
-          let whole : take (length field - 1) (drop 1 field) ≡ drop 1 field =
-          take_all (length field - 1) (drop 1 field) (rw (length-drop 1 field) (omega arith)) in
-          rw (lt-ltb r.count 8 room, lt-ltb 0 (length field) filled, eq-eqb (get_or field 0 0) 32 space, is, whole)
+      with_number n space told =
+          let one_less : suc (length digits) - 1 ≡ length digits = omega arith in
+          rw (is, lt-ltb r.count 8 room, lt-ltb 0 (suc (length digits)) (omega arith), space, one_less, told)
 
 -- bytes that are still to be passed are passed
 passed_over : (left : ℕ) (r : Record) (l : List ℕ) → with_fields left r l ≡ with_fields 0 r (drop left l)
@@ -73,36 +69,27 @@ all_passed None w at line = refl
 all_passed (Some after) w at line = passed_over w after (drop at line) ∙ ap (with_fields 0 after) (drop-drop w at line)
 
 module _ (line : List ℕ) where
-  pub no_line : length line ≤ 0 → None ≡ record_of line
+  pub no_line : length line ≡ 0 → None ≡ record_of line
   unfolding record_of
   no_line blank = go line blank where
-    go : (l : List ℕ) → length l ≤ 0 → None ≡ record_of l
+    go : (l : List ℕ) → length l ≡ 0 → None ≡ record_of l
     go [] blank = refl
-    go (letter ∷ rest) blank = absurd (omega arith)
+    go (letter ∷ rest) blank = absurd (omega (arith, blank))
 
-  pub first_fields : 0 < length line → record_of line ≡ if_kind (kind_of (get_or line 0 0)) (λ kind. with_fields 0 (of_kind kind) (drop 1 line))
-  unfolding record_of
-  first_fields filled = go line filled where
-    go : (l : List ℕ) → 0 < length l → record_of l ≡ if_kind (kind_of (get_or l 0 0)) (λ kind. with_fields 0 (of_kind kind) (drop 1 l))
-    go [] filled = absurd (omega arith)
-    go (letter ∷ rest) filled = refl
+  module _ (letter : ℕ) (rest : List ℕ) (is : line ≡ letter ∷ rest) (named : Option Kind) (of : kind_of letter ≡ named) where
+    begins : record_of line ≡ if_kind named (λ kind. with_fields 0 (of_kind kind) (drop 1 line))
+    unfolding record_of
+    begins = rw (is, of)
 
-  abbrev goes : Option Kind → Option Record
-  goes k = if_kind k (λ kind. with_fields 0 (of_kind kind) (drop 1 line))
+    pub no_kind : named ≡ None → None ≡ record_of line
+    no_kind e = sym (rw e at begins)
 
-  pub no_kind : 0 < length line → kind_of (get_or line 0 0) ≡ None → None ≡ record_of line
-  no_kind filled e = sym (first_fields filled ∙ ap goes e)
-
-  pub a_kind : (kind : Kind) (r : Record) → 0 < length line → kind_of (get_or line 0 0) ≡ Some kind → r ≡ of_kind kind
-      → with_fields 0 r (drop 1 line) ≡ record_of line
-  a_kind kind r filled e is = ap (λ r. with_fields 0 r (drop 1 line)) is ∙ sym (first_fields filled ∙ ap goes e)
-
-  to_the_end : (at : ℕ) → take (length line - at) (drop at line) ≡ drop at line
-  to_the_end at = take_all (length line - at) (drop at line) (rw (length-drop at line) (omega arith))
+    pub a_kind : (kind : Kind) (r : Record) → named ≡ Some kind → r ≡ of_kind kind → with_fields 0 r (drop 1 line) ≡ record_of line
+    a_kind kind r e made = rw made (sym (rw e at begins))
 
   pub inside_line : (at w : ℕ) → at < length line → w ≤ length (take (length line - (at + 1)) (drop (at + 1) line)) → at + 1 + w ≤ length line
   inside_line at w inside h =
-      let left : w ≤ length line - (at + 1) = rw (to_the_end (at + 1), length-drop (at + 1) line) at h in omega (arith, left, inside)
+      let left : w ≤ length line - (at + 1) = rw (take_rest line (at + 1), length-drop (at + 1) line) at h in omega (arith, left, inside)
 
   pub next_field : (r : Record) (o : Option Record) (at w : ℕ) → at < length line
       → w ≡ until_space (take (length line - (at + 1)) (drop (at + 1) line))
@@ -113,7 +100,7 @@ module _ (line : List ℕ) where
       let cut : drop at line ≡ get_or line at 0 ∷ rest = rw add-one (drop-cons line at 0 inside) in
       let size : at + 1 + w - at ≡ suc w = omega arith in
       let told : o ≡ with_field r (get_or line at 0 ∷ take w rest) = is ∙ rw (size, cut) in
-      let until : w ≡ until_space rest = to ∙ ap until_space (to_the_end (at + 1)) in
+      let until : w ≡ until_space rest = to ∙ ap until_space (take_rest line (at + 1)) in
       rw (cut, a_field r (get_or line at 0) rest, ← until, ← told) (all_passed o w (at + 1) line)
 
   pub fields_end : (r : Record) (at : ℕ) → length line ≤ at → with_fields 0 r (drop at line) ≡ Some r

@@ -1,33 +1,11 @@
--- Numbers in hex: the value of each range of bytes, for `hex_value`, and what one more digit does to a number, for `read_number`.
--- Assumes nothing.
-use Rattle.std.proofs.Common.{◌≡◌, ℕ, ◌+◌, ◌-◌, ◌*◌, ◌^◌, ◌≤◌, ◌<◌, List, length, drop, get_or, add-one, arith, drop-cons, Option, None, Some}
+-- Numbers in hex: what one more digit does to a number, for `read_number`. Assumes nothing.
+use Rattle.std.proofs.Common.{◌≡◌, ℕ, ◌+◌, ◌*◌, ◌^◌, ◌≤◌, ◌<◌, List, length, drop, get_or, add-one, arith, drop-cons, Option, None, Some}
 use native.Mathlib.Nat.{pow-suc, pow-le-pow_right}
 use lib.ListN.{drop_of_length-le}
 use borrow.Author.Tests.{le-leb, lt-leb, le-ltb, lt-ltb}
 use Rattle.vectors.specs.Hex.{hex_value, if_digit, read_from, read_hex}
 
 module _ (c : ℕ) where
-  pub figure : 48 ≤ c → c ≤ 57 → Some (c - 48) ≡ hex_value c
-  unfolding hex_value
-  figure low high = simp (le-leb 48 c low, le-leb c 57 high)
-
-  pub letter : 65 ≤ c → c ≤ 70 → Some (c - 65 + 10) ≡ hex_value c
-  unfolding hex_value
-  letter low high = simp (le-leb 48 c (omega arith), lt-leb c 57 (omega arith), le-leb 65 c low, le-leb c 70 high)
-
-  pub below : c < 48 → None ≡ hex_value c
-  unfolding hex_value
-  below high = simp (lt-leb 48 c high, lt-leb 65 c (omega arith))
-
-  pub between : 57 < c → c < 65 → None ≡ hex_value c
-  unfolding hex_value
-  between low high = simp (le-leb 48 c (omega arith), lt-leb c 57 low, lt-leb 65 c high)
-
-  pub above : 70 < c → None ≡ hex_value c
-  unfolding hex_value
-  above low =
-      simp (le-leb 48 c (omega arith), lt-leb c 57 (omega arith), le-leb 65 c (omega arith), lt-leb c 70 low)
-
   -- a digit is below 16
   pub small : (d : ℕ) → hex_value c ≡ Some d → d < 16
   unfolding hex_value

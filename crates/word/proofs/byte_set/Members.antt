@@ -1,8 +1,8 @@
 -- Members of the empty set of bytes, for `ByteSet::new`, and of a set with one more byte, for `insert`. Assumes nothing.
-use Rattle.std.proofs.Common.{◌≡◌, ℕ, zero, suc, ◌+◌, ◌-◌, ◌/◌, ◌%◌, ◌^◌, ◌<◌, Bool, true, false, ◌||◌, eqb, ltb, List, [], ◌∷◌, length, get_or, set, sym, refl, ap, mod-lt, pow-suc, arith, get_or-set_other, get_or-set_same, pow_pos, pow-add, ltb-false, ltb-true, eq-eqb, ne_eqb, eqb-true}
+use Rattle.std.proofs.Common.{◌≡◌, ℕ, zero, suc, ◌+◌, ◌-◌, ◌/◌, ◌%◌, ◌^◌, ◌<◌, Bool, true, false, ◌||◌, eqb, ltb, List, [], ◌∷◌, length, get_or, set, bit_or, sym, refl, ap, mod-lt, pow-suc, arith, get_or-set_other, get_or-set_same, pow_pos, pow-add, ltb-false, ltb-true, eq-eqb, ne_eqb, eqb-true}
 use native.Mathlib.Nat.{div_self, div-eq_of_lt, mul-mod_left, zero-div}
 use lib.Pow.{pow-lt, shl-shr}
-use lib.Bits.{bit_or, or_shr, or_mod, or_zero_r}
+use lib.Bits.{or_shr, or_mod, or_zero_r}
 use borrow.Author.Tests.{eqb-false}
 use Rattle.word.specs.Bits.{bits, bit}
 

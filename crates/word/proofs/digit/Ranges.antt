@@ -1,9 +1,8 @@
 -- A digit told by the ranges of figures and letters, for `char_is_digit_by_range`: the distance of a byte from `0`, and of its small
 -- letter from `a`, both modulo 256, are below the number of figures or letters exactly where the definition says so. Assumes nothing.
-use Rattle.std.proofs.Common.{◌≡◌, ℕ, ◌+◌, ◌-◌, ◌%◌, ◌<◌, ◌≤◌, min, Bool, true, false, cond, ◌&&◌, ◌||◌, eqb, ltb, leb, sym, refl, ap, ◌∙◌, arith, ltb-false, ltb-true, le-ltb, lt-ltb, eqb-true, leb-true}
-use mathlib.Core.Bool.{and-eq-true_iff}
-use Rattle.std.specs.Prelude.{Some, None}
-use lib.Bits.{bit_or}
+use Rattle.std.proofs.Common.{◌≡◌, ℕ, ◌+◌, ◌-◌, ◌%◌, ◌<◌, ◌≤◌, min, Bool, true, false, cond, ◌&&◌, ◌||◌, eqb, ltb, leb, bit_or, Some, None, sym, refl, ap, ◌∙◌, arith, ltb-false, ltb-true, le-ltb, lt-ltb, eqb-true, leb-true}
+use Rattle.std.proofs.Math.Bool.{or-false}
+use Rattle.std.proofs.lemmas.Bool.{and_parts}
 use Rattle.word.specs.Digit.{among, digit_value, is_digit, below}
 use Rattle.word.proofs.digit.AllBytes.{at_byte}
 use Rattle.word.proofs.digit.Table.{up_to}
@@ -25,10 +24,6 @@ apart c =
 all_apart : (c : ℕ) → c < 256 → apart c ≡ true
 all_apart c h = at_byte apart refl c h
 
-or_false : (a : Bool) → (a || false) ≡ a
-or_false true = refl
-or_false false = refl
-
 -- tests that agree
 same_test : (a b x y : ℕ) → (a < b → x < y) → (x < y → a < b) → ltb a b ≡ ltb x y
 same_test a b x y to from = go (ltb x y) refl where
@@ -45,7 +40,7 @@ module _ (radix f l : ℕ) where
 
   figure_told : f < 10 → 26 ≤ l → told ≡ ltb f radix
   figure_told h k =
-      rw (le-ltb l (min (radix - 10) 26) (omega arith), or_false) (same_test f (min radix 10) f radix (λ p. omega arith) (λ p. omega arith))
+      rw (le-ltb l (min (radix - 10) 26) (omega arith), or-false) (same_test f (min radix 10) f radix (λ p. omega arith) (λ p. omega arith))
 
   letter_told : 10 ≤ f → l < 26 → told ≡ ltb (l + 10) radix
   letter_told h k =
@@ -64,25 +59,25 @@ module _ (c radix f l : ℕ) (byte : c < 256) (small : radix < 256) where
         → (ltb (figure c) (min radix 10) || ltb (letter c) (min (radix - 10) 26))
         ≡ below (cond (among 48 57 c) (Some (c - 48)) (cond (among 65 90 c) (Some (c - 65 + 10)) (cond (among 97 122 c) (Some (c - 97 + 10)) None))) radix
     go true y z p q r e =
-        let both = (and-eq-true_iff (eqb (figure c) (c - 48)) (leb 26 (letter c))).0 (rw p at e) in
+        let both = and_parts (eqb (figure c) (c - 48)) (leb 26 (letter c)) (rw p at e) in
         let same = eqb-true (figure c) (c - 48) both.0 in
         let far = leb-true 26 (letter c) both.1 in
         let last = up_to 48 57 c p in
         rw p (figure_told radix (figure c) (letter c) (omega arith) far ∙ ap (λ (n : ℕ). ltb n radix) same)
     go false true z p q r e =
-        let both = (and-eq-true_iff (leb 10 (figure c)) (eqb (letter c) (c - 65))).0 (rw (p, q) at e) in
+        let both = and_parts (leb 10 (figure c)) (eqb (letter c) (c - 65)) (rw (p, q) at e) in
         let far = leb-true 10 (figure c) both.0 in
         let same = eqb-true (letter c) (c - 65) both.1 in
         let last = up_to 65 90 c q in
         rw (p, q) (letter_told radix (figure c) (letter c) far (omega arith) ∙ ap (λ (n : ℕ). ltb (n + 10) radix) same)
     go false false true p q r e =
-        let both = (and-eq-true_iff (leb 10 (figure c)) (eqb (letter c) (c - 97))).0 (rw (p, q, r) at e) in
+        let both = and_parts (leb 10 (figure c)) (eqb (letter c) (c - 97)) (rw (p, q, r) at e) in
         let far = leb-true 10 (figure c) both.0 in
         let same = eqb-true (letter c) (c - 97) both.1 in
         let last = up_to 97 122 c r in
         rw (p, q, r) (letter_told radix (figure c) (letter c) far (omega arith) ∙ ap (λ (n : ℕ). ltb (n + 10) radix) same)
     go false false false p q r e =
-        let both = (and-eq-true_iff (leb 10 (figure c)) (leb 26 (letter c))).0 (rw (p, q, r) at e) in
+        let both = and_parts (leb 10 (figure c)) (leb 26 (letter c)) (rw (p, q, r) at e) in
         let far = leb-true 10 (figure c) both.0 in
         let off = leb-true 26 (letter c) both.1 in
         rw (p, q, r) (other_told radix (figure c) (letter c) small far off)
@@ -92,4 +87,4 @@ pub told_by_figure : (c radix f : ℕ) → c < 256 → radix ≤ 10 → f ≡ fi
 told_by_figure c radix f byte small ef =
     let figures : min radix 10 ≡ radix = omega arith in
     let no_letter : ltb (letter c) (min (radix - 10) 26) ≡ false = le-ltb (letter c) (min (radix - 10) 26) (omega arith) in
-    sym (or_false (ltb f radix)) ∙ rw (figures, no_letter) at (told_by_range c radix f (letter c) byte (omega arith) ef refl)
+    sym (or-false (ltb f radix)) ∙ rw (figures, no_letter) at (told_by_range c radix f (letter c) byte (omega arith) ef refl)

@@ -1,7 +1,7 @@
 -- The table of values has each byte's own entry, its value or 255 for none, and what such an entry says: for the functions that read
 -- it. Assumes nothing.
-use Rattle.std.proofs.Common.{◌≡◌, ℕ, ◌*◌, ◌/◌, ◌%◌, ◌<◌, ◌≤◌, Bool, true, false, ◌&&◌, eqb, ltb, leb, sym, refl, arith, eqb-true, leb-true}
-use Rattle.std.specs.Prelude.{Option, Some, None}
+use Rattle.std.proofs.Common.{◌≡◌, ℕ, ◌*◌, ◌/◌, ◌%◌, ◌<◌, ◌≤◌, Bool, true, false, eqb, ltb, leb, Some, None, Option, sym, refl, arith, eqb-true, leb-true}
+use Rattle.std.proofs.lemmas.Bool.{and_parts}
 use Rattle.word.specs.Bits.{bits}
 use Rattle.word.specs.Digit.{among, digit_value, is_digit, below, entry, entries_from}
 use Rattle.word.proofs.digit.AllBytes.{at_byte}
@@ -25,10 +25,7 @@ digit_told c radix = entry-below (digit_value c) radix
 
 -- a byte of a range stands not behind its last
 pub up_to : (first last c : ℕ) → among first last c ≡ true → c ≤ last
-up_to first last c e = go (leb first c) e where
-  go : (after : Bool) → after && leb c last ≡ true → c ≤ last
-  go true h = leb-true c last h
-  go false h = absurd (let z : ◌≡◌ {A = ℕ} 0 1 = cc in omega arith)
+up_to first last c e = leb-true c last (and_parts (leb first c) (leb c last) e).1
 
 -- a value is below 36, so the entry 255 stands for none alone
 no_value : (c : ℕ) → entry (digit_value c) ≡ 255 → digit_value c ≡ None

@@ -1,8 +1,8 @@
 -- What a word has that the full check accepts, for demand 3 of the reader: its separator is no digit (line 4), and no reader has the
 -- consecutive flag alone (lines 12 to 14). Assumes nothing.
-use Rattle.std.proofs.Common.{◌≡◌, ℕ, zero, suc, ◌≤◌, max, Bool, true, false, not, List, [], ◌∷◌, ◌++◌, refl, arith, ltb-false, le-ltb}
-use Rattle.std.specs.Prelude.{Option, Some, None}
+use Rattle.std.proofs.Common.{◌≡◌, ℕ, zero, suc, ◌≤◌, max, Bool, true, false, not, List, [], ◌∷◌, ◌++◌, Some, None, Option, refl, arith, ltb-false, le-ltb}
 use borrow.Author.Tests.{not-true}
+use Rattle.std.proofs.lemmas.Bool.{false≢true}
 use Rattle.word.specs.declared.format_flags.Format.{Format}
 use Rattle.word.specs.Word.{digit_separator, base_prefix, base_suffix, mantissa_radix, exponent_radix}
 use Rattle.word.specs.Digit.{digit_value, below, is_digit}
@@ -28,7 +28,7 @@ unfolding valid_control_in
 no_digit radix c e = go (is_digit c radix) refl e where
   go : (t : Bool) → is_digit c radix ≡ t → valid_control_in radix c ≡ true → is_digit c radix ≡ false
   go false t h = t
-  go true t h = absurd (let z : false ≡ true = rw t at h in let n : ◌≡◌ {A = ℕ} 0 1 = cc in omega arith)
+  go true t h = absurd (false≢true (rw t at h))
 
 module _ (f : Format) (accepted : full_check f ≡ 0) where
   lines_4_on : (first_failing (control_lines f) ≡ 0) × (first_failing (flag_lines f ++ consecutive_lines f) ≡ 0)

@@ -1,5 +1,5 @@
 -- `catalogue::lookup::separators` meets its contract. Assumes nothing.
-use mathlib.Core.Path.{refl}
+use Rattle.std.proofs.Common.{refl}
 use Rattle.catalogue.specs.Block.{catalogue_in}
 use Rattle.catalogue.proofs.lookup.separators.Goals as goal
 

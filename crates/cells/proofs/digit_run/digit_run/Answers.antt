@@ -1,5 +1,5 @@
 -- `cells::digit_run::digit_run` meets its contract: refusals first, and then the steps. Assumes nothing.
-use mathlib.Core.Path.{◌∙◌, sym, ap}
+use Rattle.std.proofs.Common.{sym, ap, ◌∙◌}
 use Rattle.reader.specs.declared.passing.Syntax.{Syntax}
 use Rattle.reader.specs.Reading.{syntax_for}
 use Rattle.reader.specs.ZeroSkip.{skip_refusal}

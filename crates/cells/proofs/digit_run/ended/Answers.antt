@@ -1,5 +1,5 @@
 -- `cells::digit_run::ended` meets its contract. Assumes nothing.
-use borrow.Author.Tests.{eq-eqb, ne_eqb}
+use Rattle.std.proofs.Common.{eq-eqb, ne_eqb}
 use Rattle.cells.proofs.digit_run.ended.Goals as goal
 
 pub returns-then-taken-eq0 : goal.returns-then-taken-eq0

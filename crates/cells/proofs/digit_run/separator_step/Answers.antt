@@ -1,6 +1,5 @@
 -- `cells::digit_run::separator_step` meets its contract, by the answers of its calls (Answers). Assumes nothing.
-use mathlib.Core.Path.{◌∙◌, sym, ap}
-use mathlib.Core.Bool.{true, false}
+use Rattle.std.proofs.Common.{true, false, sym, ap, ◌∙◌}
 use Rattle.reader.specs.Reading.{reading_with}
 use Rattle.cells.specs.DigitRun.{sees_digit}
 use Rattle.cells.proofs.digit_run.Answers.{left_fits, sees_digit_lem, told_over, told_taken}

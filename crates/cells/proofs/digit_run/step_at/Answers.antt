@@ -1,6 +1,5 @@
 -- `cells::digit_run::step_at` meets its contract, by where it stands (Answers). Assumes nothing.
-use mathlib.Core.Path.{◌∙◌, sym}
-use native.Mathlib.Omega.{arith}
+use Rattle.std.proofs.Common.{sym, ◌∙◌, arith}
 use borrow.Author.Tests.{eqb-false, not-true}
 use Rattle.reader.proofs.state.Updates.{state_at, counted_tells, count_in_sum}
 use Rattle.cells.proofs.digit_run.Answers.{passes_none_here, plain_taken, plain_over, end_over}

@@ -1,5 +1,4 @@
-use Prim.Native.Nat.{◌-◌}
-use lib.ListN.{length}
+use Rattle.std.proofs.Common.{◌-◌, length}
 use Rattle.cells.proofs.digit_run.RunLoop.{Running}
 use Rattle.cells.proofs.digit_run.take_digits.Given as goal
 

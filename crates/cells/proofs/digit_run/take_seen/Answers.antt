@@ -1,6 +1,5 @@
 -- `cells::digit_run::take_seen` meets its contract. Assumes nothing.
-use mathlib.Core.Path.{◌∙◌, sym, ap}
-use native.Mathlib.Omega.{arith}
+use Rattle.std.proofs.Common.{sym, ap, ◌∙◌, arith}
 use Rattle.reader.specs.Reading.{reading_for}
 use Rattle.reader.specs.Answer.{Outcome}
 use Rattle.cells.proofs.digit_run.Answers.{take_fits, step_taken, step_over}

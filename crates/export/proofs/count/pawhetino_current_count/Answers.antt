@@ -27,6 +27,6 @@ unfolding counted_for
 returns-in-Err c =
     let e = unnamed _ _ _ (sym c.in-Err.is ∙ c.reader_on-by.ensures) in
     rw e (record {
-      number = refl;
+      number = c.number-in-Err.ensures;
       written = refl;
     })

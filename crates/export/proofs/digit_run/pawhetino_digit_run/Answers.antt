@@ -8,7 +8,7 @@ returns-in-Some-grouped_run c =
     let a = c.args in
     let fresh = c.in-Some.ensures in
     let run = rw (c.digit_separator.ensures, fresh.0) at c.in-Some-grouped_run.ensures in
-    let ten = sym (rw fresh.0 at c.radix_of-lettered.ensures) ∙ c.if-lettered.false in
+    let ten = sym (rw fresh.0 at c.mantissa_radix_byte-lettered.ensures) ∙ c.if-lettered.false in
     let law = run_written a.reader a.state.now a.s.now fresh.1 _ _ _ _ ten run a.answer.now in
     let e = c.put_run.ensures in
     record {

@@ -3,7 +3,6 @@ use mathlib.Core.Path.{◌≡◌, sym, ◌∙◌}
 use mathlib.Core.Bool.{Bool, true, false, cond}
 use Prim.Native.Nat.{ℕ, ◌+◌, ◌≤◌}
 use native.Mathlib.Omega.{arith}
-use borrow.Author.Tests.{not-false}
 use lib.ListN.{length, get_or}
 use Rattle.word.specs.Digit.{is_digit}
 use Rattle.export.proofs.next_all.GroupedCells.{grouped_starts, grouped_on, grouped_over, grouped_out}
@@ -32,7 +31,7 @@ loop-at-preserved c =
     let i = c.loop-at.invariant in
     let inside = c.loop-at-test.true in
     let more = c.if-s-n.false in
-    (omega (arith, more), omega (arith, i.1), omega (arith, i.2), λ x f r b. grouped_over a.separator a.radix a.s.now x f r b c.loop-at.at c.loop-at.count c.loop-at.passed (i.3 x f r b) inside c.if-b-separator.false more c.if-double.false (sym c.char_is_digit_by_range.ensures ∙ not-false _ c.if-not-char_is_digit_by_range.false-raw) c.if-early.false)
+    (omega (arith, more), omega (arith, i.1), omega (arith, i.2), λ x f r b. grouped_over a.separator a.radix a.s.now x f r b c.loop-at.at c.loop-at.count c.loop-at.passed (i.3 x f r b) inside c.if-b-separator.false more c.if-double.false (sym c.char_is_digit_by_range-before_digit.ensures ∙ c.if-not-before_digit.false) c.if-early.false)
 
 pub returns : goal.returns
 returns c =

@@ -7,7 +7,7 @@ pub returns-in-Ok : goal.returns-in-Ok
 returns-in-Ok c =
     let a = c.args in
     let fresh = c.in-Some.ensures in
-    let cell = rw (c.digit_separator-separator.ensures, c.radix_of.ensures, fresh.0) at c.in-Ok.ensures.1 in
+    let cell = rw (c.digit_separator-separator.ensures, c.mantissa_radix_byte.ensures, fresh.0) at c.in-Ok.ensures.1 in
     let law = grouped_written a.reader a.state.now a.s.now fresh.1 _ _ cell a.answer.now in
     let e = c.put_end.ensures in
     record {

@@ -23,7 +23,7 @@ returns-in-Err g c =
     record {
       outcome = plain_refused 19 c.args.cursor.now;
       by = rw e refl;
-      returned = c.unknown.ensures.number;
+      returned = c.number.ensures;
       moved = refl;
-      written = c.unknown.ensures.written;
+      written = c.answer_none.ensures.written;
     }

@@ -3,7 +3,6 @@ use mathlib.Core.Path.{◌≡◌, sym, ◌∙◌, ap}
 use mathlib.Core.Bool.{Bool, true, false, cond}
 use Prim.Native.Nat.{ℕ, ◌+◌, ◌≤◌}
 use native.Mathlib.Omega.{arith}
-use borrow.Author.Tests.{not-false}
 use lib.ListN.{length, get_or}
 use Rattle.word.specs.Digit.{is_digit}
 use Rattle.reader.specs.declared.search.RunSearch.{RunSearch}
@@ -36,7 +35,7 @@ loop-at-preserved c =
     let more = c.if-s-end.false in
     let ends = ap (λ (f : RunSearch). f.end) c.search_run-end.ensures in
     let past = goes_on a.separator true a.s.now c.loop-at.at inside c.requires c.if-b-separator.false _ ends in
-    (omega (arith, more), omega (arith, i.1, past), omega (arith, i.2, past), λ x f r b together. spaced_over a.separator a.radix a.s.now x f r b c.loop-at.at c.loop-at.count c.loop-at.passed (i.3 x f r b together) together inside c.if-b-separator.false _ ends more (sym c.char_is_digit_by_range.ensures ∙ not-false _ c.if-not-char_is_digit_by_range.false-raw) c.if-early.false)
+    (omega (arith, more), omega (arith, i.1, past), omega (arith, i.2, past), λ x f r b together. spaced_over a.separator a.radix a.s.now x f r b c.loop-at.at c.loop-at.count c.loop-at.passed (i.3 x f r b together) together inside c.if-b-separator.false _ ends more (sym c.char_is_digit_by_range-before_digit.ensures ∙ c.if-not-before_digit.false) c.if-early.false)
 
 pub returns : goal.returns
 returns c =

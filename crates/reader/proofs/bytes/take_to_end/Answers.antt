@@ -1,6 +1,5 @@
 -- `reader::bytes::take_to_end` meets its contract: what it tells is what the struct tells, whose state is the definition's. Assumes nothing.
-use Rattle.std.specs.Prelude.{ℕ, Option, Result}
-use Rattle.std.proofs.Common.{◌≡◌, ap, subst}
+use Rattle.std.proofs.Common.{◌≡◌, ℕ, Option, Result, ap, subst}
 use Rattle.reader.specs.declared.answer.Report.{Report}
 use Rattle.reader.specs.declared.state.Refusal.{Refusal}
 use Rattle.reader.specs.declared.state.State.{State}

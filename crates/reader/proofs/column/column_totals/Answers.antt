@@ -1,7 +1,7 @@
 -- `reader::column::column_totals` meets its contract: the sums go on by a stretch of ordinary cells or by one cell (proofs/column/Stretches.antt).
 -- Assumes nothing.
 use Rattle.std.proofs.Common.{sym, ◌∙◌, arith}
-use Rattle.reader.proofs.Rests.{rest_from}
+use Rattle.std.proofs.lemmas.List.{take_rest}
 use Rattle.reader.proofs.column.Cells.{quick_told}
 use Rattle.reader.proofs.column.Sums.{sums_stretch, sums_cell, sums_end}
 use Rattle.reader.proofs.column.Stretches.{refused_alike}
@@ -22,7 +22,7 @@ pub loop-told-preserved-then-to-ne0 : goal.loop-told-preserved-then-to-ne0
 loop-told-preserved-then-to-ne0 c =
     let a = c.args in
     rw (c.add_totals-sums.ensures, c.stretch_totals.ensures)
-    (rw (rest_from c.loop-told.left.now c.past_ordinary-to.result.cell)
+    (rw (take_rest c.loop-told.left.now c.past_ordinary-to.result.cell)
     (sums_stretch a.syntax a.format a.reader a.s.now a.ends.now c.loop-told.sums c.loop-told.left.now c.loop-told.at c.loop-told.invariant c.past_ordinary-to.result c.past_ordinary-to.ensures c.requires))
 
 pub cell_totals-one-requires : goal.cell_totals-one-requires

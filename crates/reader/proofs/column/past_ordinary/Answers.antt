@@ -13,11 +13,6 @@ loop-cell-init c =
     let a = c.args in
     walk_starts a.syntax a.s.now a.ends.now a.quick 0 a.start (omega arith) c.requires.1
 
-pub is_ordinary-requires : goal.is_ordinary-requires
-is_ordinary-requires c =
-    let b = c.bound_of-end in
-    (omega (arith, b.ensures, c.loop-cell.invariant.inside), omega (arith, b.ensures))
-
 pub returns-then-not-is_ordinary : goal.returns-then-not-is_ordinary
 returns-then-not-is_ordinary c =
     let a = c.args in

@@ -9,5 +9,5 @@ pub returns : goal.returns
 returns c =
     let a = c.args in
     c.read_if.ensures
-    ∙ reads_alike a.s.now (λ i h. omega (arith, c.type_inv.s i)) (member c.from_byte-wanted.result) (λ x. eqb x a.value) c.from_byte-wanted.ensures
+    ∙ reads_alike a.s.now (λ i h. omega (arith, c.type_inv.s i)) (member c.from-wanted.result) (λ x. eqb x a.value) c.from-wanted.ensures
     (reading_for a.state a.reader) a.state a.reader

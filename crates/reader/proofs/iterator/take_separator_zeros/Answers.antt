@@ -21,8 +21,7 @@ overflow_sub-over c = omega (arith, c.landing-place.ensures.0)
 
 pub overflow_add-passed : goal.overflow_add-passed
 overflow_add-passed c =
-    let a = c.args in
-    omega (arith, c.landing-place.ensures.0, c.landing-place.ensures.1, skipping_sums (reading_with a.syntax) a.s.now a.reader a.state c.loop-syntax.at c.loop-syntax.count c.loop-syntax.taken c.loop-syntax.passed c.loop-syntax.invariant)
+    omega (arith, c.landing-place.ensures.0, c.landing-place.ensures.1, skipping_sums _ _ _ _ _ _ _ _ c.loop-syntax.invariant)
 
 pub past_taken-at-requires : goal.past_taken-at-requires
 past_taken-at-requires c =
@@ -34,14 +33,12 @@ overflow_sub-more c = omega (arith, c.past_taken-at.ensures.1)
 
 pub overflow_add-count : goal.overflow_add-count
 overflow_add-count c =
-    let a = c.args in
-    let counts = standing_counts a.s.now a.reader a.state c.loop-syntax.at c.loop-syntax.count c.loop-syntax.invariant.stands in
+    let counts = standing_counts _ _ _ _ _ c.loop-syntax.invariant.stands in
     omega (arith, c.past_taken-at.ensures.1, c.past_taken-at.ensures.2, c.landing-place.ensures.0, counts)
 
 pub overflow_add-taken : goal.overflow_add-taken
 overflow_add-taken c =
-    let a = c.args in
-    let sums = skipping_sums (reading_with a.syntax) a.s.now a.reader a.state c.loop-syntax.at c.loop-syntax.count c.loop-syntax.taken c.loop-syntax.passed c.loop-syntax.invariant in
+    let sums = skipping_sums _ _ _ _ _ _ _ _ c.loop-syntax.invariant in
     omega (arith, c.past_taken-at.ensures.1, c.past_taken-at.ensures.2, c.landing-place.ensures.0, sums)
 
 pub loop-syntax-smaller : goal.loop-syntax-smaller
@@ -53,14 +50,12 @@ loop-syntax-smaller c =
 pub loop-syntax-preserved : goal.loop-syntax-preserved
 unfolding reading_with
 loop-syntax-preserved c =
-    let a = c.args in
-    skipping_taken (reading_with a.syntax) a.s.now a.reader a.state c.requires.0 c.requires.1 c.loop-syntax.at c.loop-syntax.count c.loop-syntax.taken c.loop-syntax.passed c.landing-place.result c.loop-syntax.invariant
+    skipping_taken _ _ _ _ c.requires.0 c.requires.1 _ _ _ _ c.landing-place.result c.loop-syntax.invariant
     c.landing-place.ensures.0 (sym c.is_zero_at.ensures ∙ c.if-not-is_zero_at.false) _ c.past_taken-at.ensures.0
 
 pub returns : goal.returns
 unfolding reading_with
 returns c =
-    let a = c.args in
     rw (c.new.ensures, c.with_count-end.ensures, c.moved-stopped.ensures)
-    (skipping_over (reading_with a.syntax) a.s.now a.reader a.state c.requires.0 c.loop-syntax.at c.loop-syntax.count c.loop-syntax.taken c.loop-syntax.passed c.loop-syntax.invariant
+    (skipping_over _ _ _ _ c.requires.0 _ _ _ _ c.loop-syntax.invariant
     c.landing-place.result c.landing-place.ensures.0 (sym c.is_zero_at.ensures ∙ c.if-not-is_zero_at.true))

@@ -3,7 +3,7 @@ use Rattle.std.proofs.Common.{◌≡◌, ◌∙◌, sym, ap, arith, rules}
 use Rattle.reader.specs.declared.passing.Syntax.{Syntax}
 use Rattle.reader.specs.Reading.{syntax_in}
 use Rattle.reader.proofs.passing.Places.{no_separator, no_separator_at_all}
-use Rattle.reader.proofs.passing.Landings.{stays_at_end, stays_on_other, stays_behind, passes_one, passes_run}
+use Rattle.reader.proofs.passing.Landings.{stays_at_end, stays_on_other, stays_behind, passes_behind}
 use Rattle.reader.proofs.passing.landing.Goals as goal
 
 pub returns-then-s-at : goal.returns-then-s-at
@@ -25,16 +25,9 @@ returns-then-not-may c =
       search rules,
     )
 
-pub returns-then-run : goal.returns-then-run
-returns-then-run c =
-    let x = c.in-Some.separated in
-    let same : syntax_in x ≡ c.args.syntax = c.in-Some.ensures in
-    let byte = c.if-b-syntax.false ∙ ap (λ (y : Syntax). y.separator) (sym same) in (
-      rw (← same)
-          (passes_run (syntax_in x) _ _ _ (omega arith) x.separator.ok byte _ c.passes-may.ensures _ c.if-not-may.false c.if-run.true
-          c.run_end.ensures.0),
-      search rules,
-    )
+pub behind-requires : goal.behind-requires
+behind-requires c =
+    (omega arith, c.if-b-syntax.false ∙ ap (λ (y : Syntax). y.separator) (sym c.in-Some.ensures))
 
 pub returns : goal.returns
 returns c =
@@ -42,6 +35,6 @@ returns c =
     let same : syntax_in x ≡ c.args.syntax = c.in-Some.ensures in
     let byte = c.if-b-syntax.false ∙ ap (λ (y : Syntax). y.separator) (sym same) in (
       rw (← same)
-          (passes_one (syntax_in x) _ _ _ (omega arith) x.separator.ok byte _ c.passes-may.ensures c.if-not-may.false c.if-run.false),
-      search rules,
+          (passes_behind (syntax_in x) _ _ _ (omega arith) x.separator.ok byte _ c.passes-may.ensures _ c.if-not-may.false c.behind.ensures.1),
+      c.behind.ensures.2,
     )

@@ -1,11 +1,11 @@
 -- `reader::skip::take_run` meets its contract: at each turn its definition goes on from the loop's numbers (SumsLoop), and each turn
 -- moves the place on. Assumes nothing.
 use Rattle.std.proofs.Common.{◌≡◌, ◌+◌, ◌-◌, eqb, arith, eqb-true}
+use Rattle.std.proofs.lemmas.Bool.{and_parts}
 use Rattle.reader.specs.Reading.{reading_with}
 use Rattle.reader.proofs.passing.Places.{no_separator}
 use Rattle.reader.proofs.passing.Landings.{stays_on_other}
 use Rattle.reader.proofs.skip.SumsLoop.{summing_starts, summing_on, summing_over, summing_out}
-use Rattle.reader.proofs.Booleans.{and_left}
 use Rattle.reader.proofs.skip.RunsTaken.{summing_taken}
 use Rattle.reader.proofs.skip.take_run.Goals as goal
 
@@ -68,7 +68,7 @@ pub past_taken-at-requires : goal.past_taken-at-requires
 past_taken-at-requires c = (
   c.if-s-place.false,
   λ e.
-      let none = eqb-true (c.separator_landing-place.result - c.loop-at.at) 0 (and_left (eqb (c.separator_landing-place.result - c.loop-at.at) 0) _ e) in
+      let none = eqb-true (c.separator_landing-place.result - c.loop-at.at) 0 (and_parts (eqb (c.separator_landing-place.result - c.loop-at.at) 0) _ e).0 in
       let stays : c.separator_landing-place.result ≡ c.loop-at.at = omega (arith, c.separator_landing-place.ensures.0, none) in
       rw stays c.if-b-separator.false,
 )

@@ -1,19 +1,12 @@
 -- `reader::state::counted` meets its contract. Assumes nothing.
-use Rattle.reader.specs.State.{counted_by}
+use Rattle.std.proofs.Common.{arith}
+use Rattle.reader.proofs.state.Updates.{count_in_sum, raised}
 use Rattle.reader.proofs.state.counted.Goals as goal
 
-pub returns-in-Integer : goal.returns-in-Integer
-unfolding counted_by
-returns-in-Integer c = rw c.in-Integer.is
+pub overflow_add-count : goal.overflow_add-count
+overflow_add-count c =
+    let a = c.args in rw c.count.ensures (omega (arith, count_in_sum a.state a.reader, c.requires))
 
-pub returns-in-Fraction : goal.returns-in-Fraction
-unfolding counted_by
-returns-in-Fraction c = rw c.in-Fraction.is
-
-pub returns-in-Exponent : goal.returns-in-Exponent
-unfolding counted_by
-returns-in-Exponent c = rw c.in-Exponent.is
-
-pub returns-in-Special : goal.returns-in-Special
-unfolding counted_by
-returns-in-Special c = rw c.in-Special.is
+pub returns : goal.returns
+returns c =
+    let a = c.args in rw (c.with_count.ensures, c.count.ensures) (raised a.state a.reader)

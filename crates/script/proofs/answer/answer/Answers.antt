@@ -4,7 +4,7 @@ use native.Mathlib.Omega.{arith}
 use lib.ListN.{length-drop}
 use Rattle.script.specs.Record.{size_behind}
 use Rattle.script.specs.Run.{run_in}
-use Rattle.script.proofs.answer.Prefixes.{to_the_end}
+use Rattle.std.proofs.lemmas.List.{take_rest}
 use Rattle.script.proofs.answer.Records.{answering_starts, answering_goes_on, due_room, due_whole, nothing_due, not_due, responds_at}
 use Rattle.script.proofs.answer.answer.Goals as goal
 use Rattle.script.proofs.answer.answer.Goals.{in-Some+then-not-is_due, in_default}
@@ -26,7 +26,7 @@ respond-response-requires c =
 pub loop-first-smaller : goal.loop-first-smaller
 loop-first-smaller c =
     let body = c.in-Some.body.now in
-    rw (to_the_end body c.min.result) (omega (arith, c.in-Some.ensures.cases.1, length-drop c.min.result body))
+    rw (take_rest body c.min.result) (omega (arith, c.in-Some.ensures.cases.1, length-drop c.min.result body))
 
 pub loop-first-preserved : goal.loop-first-preserved
 loop-first-preserved c =
@@ -37,7 +37,7 @@ loop-first-preserved c =
     let answer = c.respond-response.ensures in
     let first = c.in-Some.first.now in
     let body = c.in-Some.body.now in
-    rw (to_the_end body c.min.result)
+    rw (take_rest body c.min.result)
     (answering_goes_on first body (rw c.in-Some.ensures.cases.0 at l.invariant)
     (λ more. omega (arith, due_whole _ _ _ _ _ due.result due.ensures c.if-not-is_due.false more, size))
     (c.min.ensures ∙ rw size)

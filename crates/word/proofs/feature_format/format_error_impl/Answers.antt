@@ -11,32 +11,32 @@ after_control f = flag_lines f ++ consecutive_lines f
 after_radix : Format → List ℕ
 after_radix f = control_lines f ++ after_control f
 
-pub returns-then-not-is_success : goal.returns-then-not-is_success
+pub returns-then-not-radix_holds : goal.returns-then-not-radix_holds
 unfolding full_check after_radix after_control
-returns-then-not-is_success c =
+returns-then-not-radix_holds c =
     let f = c.args.format in
-    stops _ _ (radix_lines f) (after_radix f) c.radix_error_impl-radix.ensures c.is_success.ensures c.if-not-is_success.true-raw
+    stops _ _ (radix_lines f) (after_radix f) c.radix_error_impl-radix.ensures c.is_success-radix_holds.ensures c.if-not-radix_holds.true
 
-pub returns-then-not-is_success-2 : goal.returns-then-not-is_success-2
+pub returns-then-not-control_holds : goal.returns-then-not-control_holds
 unfolding full_check after_radix after_control
-returns-then-not-is_success-2 c =
+returns-then-not-control_holds c =
     let f = c.args.format in
-    goes_on _ _ (radix_lines f) (after_radix f) c.radix_error_impl-radix.ensures c.is_success.ensures _ c.if-not-is_success.false-raw
-    (stops _ _ (control_lines f) (after_control f) c.control_error-control.ensures c.is_success-2.ensures c.if-not-is_success-2.true-raw)
+    goes_on _ _ (radix_lines f) (after_radix f) c.radix_error_impl-radix.ensures c.is_success-radix_holds.ensures _ c.if-not-radix_holds.false
+    (stops _ _ (control_lines f) (after_control f) c.control_error-control.ensures c.is_success-control_holds.ensures c.if-not-control_holds.true)
 
-pub returns-then-not-is_success-3 : goal.returns-then-not-is_success-3
+pub returns-then-not-flags_hold : goal.returns-then-not-flags_hold
 unfolding full_check after_radix after_control
-returns-then-not-is_success-3 c =
+returns-then-not-flags_hold c =
     let f = c.args.format in
-    goes_on _ _ (radix_lines f) (after_radix f) c.radix_error_impl-radix.ensures c.is_success.ensures _ c.if-not-is_success.false-raw
-    (goes_on _ _ (control_lines f) (after_control f) c.control_error-control.ensures c.is_success-2.ensures _ c.if-not-is_success-2.false-raw
-    (stops _ _ (flag_lines f) (consecutive_lines f) c.flag_error-flags.ensures c.is_success-3.ensures c.if-not-is_success-3.true-raw))
+    goes_on _ _ (radix_lines f) (after_radix f) c.radix_error_impl-radix.ensures c.is_success-radix_holds.ensures _ c.if-not-radix_holds.false
+    (goes_on _ _ (control_lines f) (after_control f) c.control_error-control.ensures c.is_success-control_holds.ensures _ c.if-not-control_holds.false
+    (stops _ _ (flag_lines f) (consecutive_lines f) c.flag_error-flags.ensures c.is_success-flags_hold.ensures c.if-not-flags_hold.true))
 
 pub returns : goal.returns
 unfolding full_check after_radix after_control
 returns c =
     let f = c.args.format in
-    goes_on _ _ (radix_lines f) (after_radix f) c.radix_error_impl-radix.ensures c.is_success.ensures _ c.if-not-is_success.false-raw
-    (goes_on _ _ (control_lines f) (after_control f) c.control_error-control.ensures c.is_success-2.ensures _ c.if-not-is_success-2.false-raw
-    (goes_on _ _ (flag_lines f) (consecutive_lines f) c.flag_error-flags.ensures c.is_success-3.ensures _ c.if-not-is_success-3.false-raw
+    goes_on _ _ (radix_lines f) (after_radix f) c.radix_error_impl-radix.ensures c.is_success-radix_holds.ensures _ c.if-not-radix_holds.false
+    (goes_on _ _ (control_lines f) (after_control f) c.control_error-control.ensures c.is_success-control_holds.ensures _ c.if-not-control_holds.false
+    (goes_on _ _ (flag_lines f) (consecutive_lines f) c.flag_error-flags.ensures c.is_success-flags_hold.ensures _ c.if-not-flags_hold.false
     c.consecutive_error.ensures))

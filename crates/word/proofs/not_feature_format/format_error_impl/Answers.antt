@@ -12,23 +12,23 @@ after_control f = line 15 (plain_flags f) ∷ []
 after_radix : Format → List ℕ
 after_radix f = plain_control_lines f ++ after_control f
 
-pub returns-then-not-is_success : goal.returns-then-not-is_success
+pub returns-then-not-radix_holds : goal.returns-then-not-radix_holds
 unfolding plain_check after_radix after_control
-returns-then-not-is_success c =
+returns-then-not-radix_holds c =
     let f = c.args.format in
-    stops _ _ (radix_lines f) (after_radix f) c.radix_error_impl-radix.ensures c.is_success.ensures c.if-not-is_success.true-raw
+    stops _ _ (radix_lines f) (after_radix f) c.radix_error_impl-radix.ensures c.is_success-radix_holds.ensures c.if-not-radix_holds.true
 
-pub returns-then-not-is_success-2 : goal.returns-then-not-is_success-2
+pub returns-then-not-control_holds : goal.returns-then-not-control_holds
 unfolding plain_check after_radix after_control
-returns-then-not-is_success-2 c =
+returns-then-not-control_holds c =
     let f = c.args.format in
-    goes_on _ _ (radix_lines f) (after_radix f) c.radix_error_impl-radix.ensures c.is_success.ensures _ c.if-not-is_success.false-raw
-    (stops _ _ (plain_control_lines f) (after_control f) c.control_error-control.ensures c.is_success-2.ensures c.if-not-is_success-2.true-raw)
+    goes_on _ _ (radix_lines f) (after_radix f) c.radix_error_impl-radix.ensures c.is_success-radix_holds.ensures _ c.if-not-radix_holds.false
+    (stops _ _ (plain_control_lines f) (after_control f) c.control_error-control.ensures c.is_success-control_holds.ensures c.if-not-control_holds.true)
 
 pub returns : goal.returns
 unfolding plain_check after_radix after_control
 returns c =
     let f = c.args.format in
-    goes_on _ _ (radix_lines f) (after_radix f) c.radix_error_impl-radix.ensures c.is_success.ensures _ c.if-not-is_success.false-raw
-    (goes_on _ _ (plain_control_lines f) (after_control f) c.control_error-control.ensures c.is_success-2.ensures _ c.if-not-is_success-2.false-raw
+    goes_on _ _ (radix_lines f) (after_radix f) c.radix_error_impl-radix.ensures c.is_success-radix_holds.ensures _ c.if-not-radix_holds.false
+    (goes_on _ _ (plain_control_lines f) (after_control f) c.control_error-control.ensures c.is_success-control_holds.ensures _ c.if-not-control_holds.false
     (rw (line_first 14, c.line.ensures, c.has_valid_flags.ensures)))
