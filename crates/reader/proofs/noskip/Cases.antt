@@ -36,3 +36,8 @@ module _ (s : List ℕ) (at : ℕ) where
       go (Ok (Some b)) = refl
       go (Ok None) = rw (add-zero at)
       go (Err e) = rw (add-zero at)
+
+    -- where no byte is seen, a take answers what the peek did
+    pub stays : plain_byte x ≡ None → plain_outcome_of (record { report = record { found = x; taken = 0; passed = 0 }; cursor = record { cursor = at } }) ≡ plain_next_of s at
+    unfolding plain_next_of
+    stays none = rw (sym seen) (rw none refl)
