@@ -30,11 +30,15 @@ pub struct Reached {
     pub at: usize,
 }
 
-// Where a cell ends, with its end brought within bounds.
+// Where a cell ends, with its end brought within bounds. A test tells an end that is out of order: by the larger of the two each cell would
+// wait for the one before it, and cells of no byte or of one took a quarter more.
 fn bound_of(size: usize, start: usize, end: usize) -> usize
     ensures { result ≡ min (max end start) size }
 {
-    end.max(start).min(size)
+    if end < start {
+        return start.min(size);
+    }
+    end.min(size)
 }
 
 // No `+`: that the sums fit is asked here, and `Add` would want a member of its own for it.
