@@ -1,5 +1,5 @@
 -- The sums over a column's cells, as its loop adds them: stretch by stretch or cell by cell; and the call's outcome. Assumes nothing.
-use Rattle.std.proofs.Common.{◌≡◌, ℕ, ◌+◌, ◌≤◌, List, [], ◌∷◌, length, drop, sym, ap, ◌∙◌, arith}
+use Rattle.std.proofs.Common.{◌≡◌, ℕ, ◌+◌, ◌-◌, ◌≤◌, List, [], ◌∷◌, length, drop, sym, refl, ap, ◌∙◌, arith, length-drop, drop-drop}
 use Rattle.std.proofs.lemmas.List.{nil_from_length}
 use Rattle.word.specs.declared.format_flags.Format.{Format}
 use Rattle.reader.specs.declared.state.Reader.{Reader}
@@ -21,8 +21,19 @@ use Rattle.reader.proofs.column.Stretches.{add_totals_assoc, digits_within, pair
 pub stretch_size : (x : Syntax) (l : List ℕ) → ((ordinary_totals x l).taken + (ordinary_totals x l).passed ≡ length l) × ((ordinary_totals x l).digits ≤ length l)
 stretch_size x l = (omega (arith, pairs_within (passing x) l), digits_within x.radix l)
 
+-- what is left of a list is what stands behind as many as are gone, and so is what is left of that
+abbrev pub IsLeft : List ℕ → List ℕ → Type 0
+IsLeft ends left = (length left ≤ length ends) × (left ≡ drop (length ends - length left) ends)
+
+left_on : (ends left : List ℕ) (k : ℕ) → k ≤ length left → IsLeft ends left → IsLeft ends (drop k left)
+left_on ends left k inside here =
+    let size = length-drop k left in
+    let gone : length ends - length left + k ≡ length ends - length (drop k left) = omega (arith, size, here.0) in
+    (omega (arith, size, here.0), ap (drop k) here.1 ∙ drop-drop k (length ends - length left) ends ∙ ap (λ (i : ℕ). drop i ends) gone)
+
 -- The sums over a column's cells but the last, those that `left` ends, of which the first begins at `at`.
 pub record Summed (x : Syntax) (f : Format) (r : Reader) (s ends : List ℕ) (sums : Totals) (left : List ℕ) (at : ℕ) : Type 0 where
+  pub cells : IsLeft ends left
   pub inside : at ≤ length s
   pub size : sums.taken + sums.passed ≤ at
   pub digits : sums.digits ≤ at
@@ -32,7 +43,9 @@ module _ (x : Syntax) (f : Format) (r : Reader) (s ends : List ℕ) where
   pub sums_start : Summed x f r s ends no_totals ends 0
   sums_start =
       let c = column_from (reading_with x) f r s 0 ends in
+      let none : length ends - length ends ≡ 0 = omega arith in
       record {
+        cells = (omega arith, rw none refl);
         inside = omega arith;
         size = omega arith;
         digits = omega arith;
@@ -47,6 +60,7 @@ module _ (x : Syntax) (f : Format) (r : Reader) (s ends : List ℕ) where
         let size = stretch_size x (part_from s at to.at) in
         let long = part_length s at to.at stretch.ordered stretch.inside in
         record {
+          cells = left_on ends left to.cell stretch.cells here.cells;
           inside = stretch.inside;
           size = omega (arith, here.size, size.0, long, stretch.ordered);
           digits = omega (arith, here.digits, size.1, long, stretch.ordered);
@@ -68,6 +82,7 @@ module _ (x : Syntax) (f : Format) (r : Reader) (s ends : List ℕ) where
         let long = part_length s at end ordered within in
         let rest = column_from (reading_with x) f r s end behind in
         record {
+          cells = rw next at (left_on ends left 1 (omega (arith, ap length next)) here.cells);
           inside = within;
           size = omega (arith, here.size);
           digits = omega (arith, here.digits);

@@ -5,8 +5,9 @@ use Rattle.reader.specs.declared.rule.Flags.{Flags}
 use Rattle.reader.specs.declared.rule.Neighbour.{Neighbour}
 use Rattle.reader.specs.declared.rule.Later.{Later}
 use Rattle.reader.specs.Rule.{rule_of, names_of}
+use Rattle.word.specs.Bits.{bit}
 use Rattle.word.proofs.byte_set.Members.{zero_bit}
-use Rattle.reader.specs.Code.RuleWords.{code_of, IsLater}
+use Rattle.reader.specs.Code.RuleWords.{cell_of, code_of, IsLater}
 use Rattle.reader.proofs.rule.Table.{same, every, every_cell, every_pair, cell_at, pair_at}
 
 -- a test passes for every cell with every two neighbours
@@ -64,6 +65,22 @@ later_looks_behind flags p n = same _ _ (case_at looks_behind all_look_behind fl
 -- where the word of a reader that has counted has no bit, its rule never holds
 pub never_holds : (flags : Flags) (l : Later) → IsLater flags l → l.0 ≡ 0 → (p n : Neighbour) → rule_of flags false p n ≡ false
 never_holds flags l later none p n = sym (later.holds p n) ∙ rw none (zero_bit (code_of n))
+
+-- the cells of this mask, of readers that have counted and that have not: their rule never holds
+abbrev is_silent : Flags → Bool → Neighbour → Neighbour → Bool
+is_silent flags is_first p n = not (bit 0x00230023 (cell_of flags is_first)) || beq (rule_of flags is_first p n) false
+
+all_silent : T (every_case is_silent)
+unfolding every every_cell every_pair every_case rule_of bit
+all_silent = tt
+
+if_so : (a b : Bool) → T (not a || beq b false) → a ≡ true → b ≡ false
+if_so true b t e = same b false t
+if_so false b t e = absurd (cc)
+
+pub never_holds_lem :
+    (flags : Flags) (is_first : Bool) (p n : Neighbour) → bit 0x00230023 (cell_of flags is_first) ≡ true → rule_of flags is_first p n ≡ false
+never_holds_lem flags is_first p n = if_so _ _ (case_at is_silent all_silent flags is_first p n)
 
 -- a neighbour that is a separator, and so no digit
 abbrev pub a_separator : Neighbour
