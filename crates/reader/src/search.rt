@@ -34,7 +34,7 @@ fn single_steps(s: &[u8], separator: NonZeroU8) -> usize
     found.unwrap_or(s.len())
 }
 
-// The search from a place within the slice. Where no step is asked for, none is counted in what is compiled.
+// The search from a place within the slice. What is compiled counts by each loop's index alone.
 pub(crate) fn search_from(s: &[u8], separator: NonZeroU8, at: usize) -> RunSearch
     requires { at ≤ length s.now }
     ensures { (result ≡ run_search_of (non_zero_u8_get separator) s.now at) × (result.end ≤ length s.now) }

@@ -1,4 +1,4 @@
--- Who is named, from what `Reader::try_from`, or a test over it, found: for export and script, which are given a byte. Assumes nothing.
+-- Who is named, from what `Reader::try_from`, or a test over it, found: for export's column, count and plain calls. Assumes nothing.
 use Rattle.std.proofs.Common.{◌≡◌, Some, None, Ok, Err, Option, ok_or, arith}
 use Rattle.reader.specs.declared.state.Reader.{Reader}
 use Rattle.reader.specs.declared.state.UnknownReader.{UnknownReader}
