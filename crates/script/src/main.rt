@@ -17,6 +17,7 @@ ghost use Rattle.std.specs.Prelude.{◌<◌, length};
 ghost use Rattle.script.specs.Record.{longest_body};
 ghost use Rattle.script.specs.Stream.{Ends};
 
+use crate::message::message;
 use crate::run::MOST_TEXT;
 use crate::stream::{Start, StreamError, first, go_on, hand_on, take_turn};
 use std::io::{Stdin, Stdout};
@@ -51,7 +52,5 @@ fn main(rt: HostRuntime) {
     let mut buffer = io::large_buffer();
     let mut out = io::large_buffer();
     let ended = take_turns(rt.stdin(), rt.stdout(), &mut text, &mut buffer, &mut out);
-    if let Err(error) = ended {
-        let _ = eprint!(rt; "{error}");
-    }
+    let _ = rt.stderr().write_all(message(ended));
 }
