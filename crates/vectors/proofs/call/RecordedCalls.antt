@@ -34,29 +34,32 @@ buffer_length : (bytes : ℕ) → length (buffer_of bytes) ≡ 8
 unfolding buffer_of
 buffer_length bytes = refl
 
-module _ (what bytes : ℕ) (f : Format) (buffer : List ℕ) (end : ℕ) (is : buffer ≡ buffer_of bytes) (to : end ≡ byte_of what 2) where
-  pub too_long : length buffer < end → None ≡ repeated_of what f bytes
-  unfolding repeated_of
-  too_long past =
-      let size : length buffer ≡ 8 = ap length is ∙ buffer_length bytes in
-      let long : 8 < byte_of what 2 = omega (arith, past, size, to) in
-      rw (lt-leb (byte_of what 2) 8 long)
+pub eight_bytes : (buffer : List ℕ) (n : ℕ) → buffer ≡ to_le_bytes w64 n → length buffer ≡ 8
+eight_bytes buffer n is = ap length (is ∙ lowest_first n) ∙ buffer_length n
 
-  pub same_call : (r : Reader) (answer : Option ℕ) (kind value : ℕ) (st : State)
+module _ (what bytes : ℕ) (f : Format) (buffer : List ℕ) (end : ℕ) (to : end ≡ byte_of what 2) where
+  pub same_call : buffer ≡ buffer_of bytes → (r : Reader) (answer : Option ℕ) (kind value : ℕ) (st : State)
       → kind ≡ byte_of what 0 → value ≡ byte_of what 7 → st ≡ state_of what f
       → answer ≡ answer_to kind (take (end - 0) buffer) st r value → answer ≡ asked_of what f bytes r
   unfolding state_of
-  same_call r answer kind value st k v s known =
+  same_call is r answer kind value st k v s known =
       let whole : end - 0 ≡ end = omega arith in known ∙ rw (k, v, s, whole, is, to)
 
-  module _ (within : end ≤ length buffer) (n : ℕ) (who : Option Reader) (by : n ≡ byte_of what 1) (named : reader_named n ≡ who) where
-    short : byte_of what 2 ≤ 8
-    short = let size : length buffer ≡ 8 = ap length is ∙ buffer_length bytes in omega (arith, within, size, to)
-
-    pub no_reader : who ≡ None → None ≡ repeated_of what f bytes
+  module _ (size : length buffer ≡ 8) where
+    pub too_long : length buffer < end → None ≡ repeated_of what f bytes
     unfolding repeated_of
-    no_reader e = rw (le-leb (byte_of what 2) 8 short, ← by, named, e)
+    too_long past =
+        let long : 8 < byte_of what 2 = omega (arith, past, size, to) in
+        rw (lt-leb (byte_of what 2) 8 long)
 
-    pub asked : (r : Reader) (answer : Option ℕ) → who ≡ Some r → answer ≡ asked_of what f bytes r → answer ≡ repeated_of what f bytes
-    unfolding repeated_of
-    asked r answer e known = rw (le-leb (byte_of what 2) 8 short, ← by, named, e) known
+    module _ (within : end ≤ length buffer) (n : ℕ) (who : Option Reader) (by : n ≡ byte_of what 1) (named : reader_named n ≡ who) where
+      short : byte_of what 2 ≤ 8
+      short = omega (arith, within, size, to)
+
+      pub no_reader : who ≡ None → None ≡ repeated_of what f bytes
+      unfolding repeated_of
+      no_reader e = rw (le-leb (byte_of what 2) 8 short, ← by, named, e)
+
+      pub asked : (r : Reader) (answer : Option ℕ) → who ≡ Some r → answer ≡ asked_of what f bytes r → answer ≡ repeated_of what f bytes
+      unfolding repeated_of
+      asked r answer e known = rw (le-leb (byte_of what 2) 8 short, ← by, named, e) known
